@@ -1,0 +1,3 @@
+// Reference sources: where the sheets of securities and currencies come from.
+pub mod raw;
+pub mod source;
