@@ -1,6 +1,6 @@
 // Questions and entries with any numbers: what lies outside the units has no sheet, and no entry.
 ghost use mathlib.Core.Path.{_≡_};
-ghost use Rattle.sources.specs.Meaning.{answers, SecurityEntered, CurrencyEntered, Unless, securityEntryRefusal, currencyEntryRefusal};
+ghost use Rattle.reference.specs.Meaning.{answers, SecurityEntered, CurrencyEntered, Unless, securityEntryRefusal, currencyEntryRefusal};
 use crate::source::Source;
 use sheets::fault::Fault;
 use sheets::fault::Layer;

@@ -1,6 +1,6 @@
 // What every source promises.
 ghost use mathlib.Core.Path.{_≡_};
-ghost use Rattle.sources.specs.Meaning.{Meaning, Own, SecurityEntered, CurrencyEntered};
+ghost use Rattle.reference.specs.Meaning.{Meaning, Own, SecurityEntered, CurrencyEntered};
 use sheets::fault::Fault;
 use sheets::sheet::CurrencySheet;
 use sheets::sheet::SecuritySheet;

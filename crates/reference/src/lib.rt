@@ -1,0 +1,3 @@
+// The interface of reference sources, where the sheets of securities and currencies come from.
+pub mod raw;
+pub mod source;

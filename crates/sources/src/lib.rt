@@ -1,3 +1,0 @@
-// Reference sources: where the sheets of securities and currencies come from.
-pub mod raw;
-pub mod source;
