@@ -1,0 +1,40 @@
+-- Steps come to the same over two tables that agree on what the steps read.
+use mathlib.Core.Path.{_≡_, refl, sym, ap, _∙_}
+use mathlib.Core.List.{List, [], _∷_}
+use Rattle.std.specs.declared.option.Option.{Option}
+use Rattle.std.specs.declared.option.Option.the-variants.{Some, None}
+use Rattle.std.specs.declared.result.Result.{Result}
+use Rattle.std.specs.declared.result.Result.the-variants.{Ok, Err}
+use Rattle.sheets.specs.declared.fault.Fault.{Fault}
+use Rattle.reference.specs.Meaning.{Sheets}
+use Rattle.calculation.specs.Steps.{Steps, gives, tooLarge, readsSecurity, readsCurrency, found, resultOf, Read, ofSecurity, ofCurrency, readsOf}
+use Rattle.calculation.specs.Charging.{unless, chargesOf, chargesReads, stepsOf}
+use Rattle.reports.specs.Reports.{reportRefusal}
+use Rattle.calculation.specs.Reading.{AgreeOn, Depends-on-reads}
+
+module _ (m n : Sheets) where
+  -- the same answer and the same reads
+  abbrev Same : {A : Type 0} → Steps A → Type 0
+  Same p = (resultOf n p ≡ resultOf m p) × (readsOf n p ≡ readsOf m p)
+
+  -- after one read at which both tables have o
+  after : {S A : Type 0} (o : Option S) (f : Fault) (rest : S → Steps A) → AgreeOn m n (found o [] (λ s. readsOf m (rest s))) → ((s : S) → AgreeOn m n (readsOf m (rest s)) → Same (rest s)) → (found o (Err f) (λ s. resultOf n (rest s)) ≡ found o (Err f) (λ s. resultOf m (rest s))) × (found o [] (λ s. readsOf n (rest s)) ≡ found o [] (λ s. readsOf m (rest s)))
+  after None f rest agree each = (refl, refl)
+  after (Some s) f rest agree each = each s agree
+
+  same-steps : {A : Type 0} (p : Steps A) → AgreeOn m n (readsOf m p) → Same p
+  same-steps (gives a) agree = (refl, refl)
+  same-steps (tooLarge k d) agree = (refl, refl)
+  same-steps (readsSecurity k d rest) agree =
+      let both = after (m .securities k d) _ rest (agree .1) (λ s. same-steps (rest s)) in
+      rw (agree .0) (both .0, ap (λ rs. ofSecurity k d ∷ rs) (both .1))
+  same-steps (readsCurrency k d rest) agree =
+      let both = after (m .currencies k d) _ rest (agree .1) (λ s. same-steps (rest s)) in
+      rw (agree .0) (both .0, ap (λ rs. ofCurrency k d ∷ rs) (both .1))
+
+  unrefused : {A : Type 0} (o : Option Fault) (p : Steps A) → AgreeOn m n (unless o (readsOf m p) (λ f. [])) → (unless o (resultOf n p) Err ≡ unless o (resultOf m p) Err) × (unless o (readsOf n p) (λ f. []) ≡ unless o (readsOf m p) (λ f. []))
+  unrefused None p agree = same-steps p agree
+  unrefused (Some f) p agree = (refl, refl)
+
+pub depends : Depends-on-reads
+depends marks opted r m n agree = unrefused m n (reportRefusal marks r) (stepsOf marks opted r) agree

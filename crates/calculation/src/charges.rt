@@ -1,0 +1,117 @@
+// What a report costs whom.
+ghost use mathlib.Core.Path.{_≡_};
+ghost use Rattle.reports.specs.Days.{daysBetween};
+ghost use Rattle.calculation.specs.Steps.{resultOf};
+ghost use Rattle.reports.specs.Terms.{termsOf};
+ghost use Rattle.reference.specs.Meaning.{answers};
+ghost use Rattle.calculation.specs.Charging.{chargeOf, chargingSide, chargingOne, charging, chargesOf};
+ghost use Rattle.calculation.specs.Figures.{Figures};
+ghost use Rattle.calculation.specs.Reading.{Depends-on-reads};
+use crate::figure::figure_of;
+use reports::calendar::Calendar;
+use reports::check::check;
+use crate::charge::Charge;
+use crate::charge::Charges;
+use reports::report::Failing;
+use crate::charge::Figure;
+use reports::report::Report;
+use reports::report::Side;
+use reports::report::Trade;
+use sheets::fault::Fault;
+use reference::source::Source;
+
+fn charge_of(trade: Trade, side: Side, figure: Figure) -> Charge
+    ensures { λ r. ⌜ r ≡ chargeOf (termsOf trade) side figure ⌝ }
+{
+    let (failing, other) = match side {
+        Side::Deliverer => (trade.deliverer, trade.receiver),
+        Side::Receiver => (trade.receiver, trade.deliverer),
+    };
+    Charge {
+        failing,
+        other,
+        currency: figure.currency,
+        amount: figure.amount,
+    }
+}
+
+// The charge of one side, or the first fault.
+fn charge_side<S: Source>(
+    source: &S,
+    calendar: &Calendar,
+    opted: &[bool; 90],
+    trade: Trade,
+    side: Side,
+) -> Result<Charge, Fault>
+    ensures { λ r. ⌜ r ≡ resultOf (answers (meaning (now (source .entry)))) (chargingSide (now (opted .entry)) (termsOf trade) side (daysBetween (now (calendar .entry) .business) (trade .span .from) (trade .span .end))) ⌝ }
+{
+    let f = figure_of(source, calendar, opted, trade, side)?;
+    Ok(charge_of(trade, side, f))
+}
+
+fn charge_both<S: Source>(
+    source: &S,
+    calendar: &Calendar,
+    opted: &[bool; 90],
+    trade: Trade,
+) -> Result<Charges, Fault>
+    ensures { λ r. ⌜ r ≡ resultOf (answers (meaning (now (source .entry)))) (charging (now (opted .entry)) (termsOf trade) Failing.Both (daysBetween (now (calendar .entry) .business) (trade .span .from) (trade .span .end))) ⌝ }
+{
+    let a = charge_side(source, calendar, opted, trade, Side::Deliverer)?;
+    let b = charge_side(source, calendar, opted, trade, Side::Receiver)?;
+    Ok(Charges::Two(a, b))
+}
+
+fn charge_one<S: Source>(
+    source: &S,
+    calendar: &Calendar,
+    opted: &[bool; 90],
+    trade: Trade,
+    side: Side,
+) -> Result<Charges, Fault>
+    ensures { λ r. ⌜ r ≡ resultOf (answers (meaning (now (source .entry)))) (chargingOne (now (opted .entry)) (termsOf trade) side (daysBetween (now (calendar .entry) .business) (trade .span .from) (trade .span .end))) ⌝ }
+{
+    let a = charge_side(source, calendar, opted, trade, side)?;
+    Ok(Charges::One(a))
+}
+
+// The charges of a checked trade, or the first fault.
+fn charge<S: Source>(
+    source: &S,
+    calendar: &Calendar,
+    opted: &[bool; 90],
+    trade: Trade,
+) -> Result<Charges, Fault>
+    ensures { λ r. ⌜ r ≡ resultOf (answers (meaning (now (source .entry)))) (charging (now (opted .entry)) (termsOf trade) (trade .span .failing) (daysBetween (now (calendar .entry) .business) (trade .span .from) (trade .span .end))) ⌝ }
+{
+    match trade.span.failing {
+        Failing::OnlyDeliverer => charge_one(source, calendar, opted, trade, Side::Deliverer),
+        Failing::OnlyReceiver => charge_one(source, calendar, opted, trade, Side::Receiver),
+        Failing::Both => charge_both(source, calendar, opted, trade),
+    }
+}
+
+// The charges of a report, or the first fault.
+pub fn charges<S: Source>(
+    source: &S,
+    calendar: &Calendar,
+    opted: &[bool; 90],
+    report: Report,
+) -> Result<Charges, Fault>
+    ensures { λ r. ⌜ r ≡ chargesOf (now (calendar .entry) .business) (now (opted .entry)) (answers (meaning (now (source .entry)))) report ⌝ }
+{
+    let trade = check(calendar, report)?;
+    charge(source, calendar, opted, trade)
+}
+
+pub fn depends_on_reads() -> u8
+    ensures { λ _. ⌜ Depends-on-reads ⌝ }
+{
+    0
+}
+
+pub fn figures_stand() -> u8
+    ensures { λ _. ⌜ Figures ⌝ }
+{
+    0
+}

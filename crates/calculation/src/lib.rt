@@ -1,0 +1,7 @@
+// What a report is charged: who pays whom, in which currency and how much.
+pub mod charge;
+pub mod charges;
+mod day;
+mod figure;
+mod parts;
+mod rounding;
