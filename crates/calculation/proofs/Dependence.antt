@@ -1,5 +1,6 @@
--- Steps come to the same over two tables that agree on what the steps read.
+-- Steps come to the same over two sources that agree on what the steps read.
 use mathlib.Core.Path.{_≡_, refl, sym, ap, _∙_}
+use mathlib.Core.Bool.{Bool}
 use mathlib.Core.List.{List, [], _∷_}
 use Rattle.std.specs.declared.option.Option.{Option}
 use Rattle.std.specs.declared.option.Option.the-variants.{Some, None}
@@ -10,6 +11,8 @@ use Rattle.reference.specs.Meaning.{Sheets}
 use Rattle.calculation.specs.Steps.{Steps, gives, tooLarge, readsSecurity, readsCurrency, found, resultOf, Read, ofSecurity, ofCurrency, readsOf}
 use Rattle.calculation.specs.Charging.{unless, chargesOf, chargesReads, stepsOf}
 use Rattle.reports.specs.Reports.{reportRefusal}
+use Rattle.reports.specs.declared.report.Report.{Report}
+use Rattle.calculation.specs.declared.charge.Charges.{Charges}
 use Rattle.calculation.specs.Reading.{AgreeOn, Depends-on-reads}
 
 module _ (m n : Sheets) where
@@ -36,5 +39,7 @@ module _ (m n : Sheets) where
   unrefused None p agree = same-steps p agree
   unrefused (Some f) p agree = (refl, refl)
 
-pub depends : Depends-on-reads
-depends marks opted r m n agree = unrefused m n (reportRefusal marks r) (stepsOf marks opted r) agree
+pub depends : (marks opted : List Bool) (m : Sheets) (report : Report) (r : Result Charges Fault) → r ≡ chargesOf marks opted m report → Depends-on-reads marks opted m report r
+depends marks opted m report r e n agree =
+    let same = unrefused m n (reportRefusal marks report) (stepsOf marks opted report) agree in
+    (same .0 ∙ sym e, same .1)

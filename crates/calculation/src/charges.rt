@@ -1,11 +1,10 @@
-// What a report costs whom.
+// What a report is charged, to whom and for whom.
 ghost use mathlib.Core.Path.{_≡_};
 ghost use Rattle.reports.specs.Days.{daysBetween};
 ghost use Rattle.calculation.specs.Steps.{resultOf};
 ghost use Rattle.reports.specs.Terms.{termsOf};
 ghost use Rattle.reference.specs.Meaning.{answers};
 ghost use Rattle.calculation.specs.Charging.{chargeOf, chargingSide, chargingOne, charging, chargesOf};
-ghost use Rattle.calculation.specs.Figures.{Figures};
 ghost use Rattle.calculation.specs.Reading.{Depends-on-reads};
 use crate::figure::figure_of;
 use reports::calendar::Calendar;
@@ -21,7 +20,7 @@ use sheets::fault::Fault;
 use reference::source::Source;
 
 fn charge_of(trade: Trade, side: Side, figure: Figure) -> Charge
-    ensures { λ r. ⌜ r ≡ chargeOf (termsOf trade) side figure ⌝ }
+    ensures value { λ r. ⌜ r ≡ chargeOf (termsOf trade) side figure ⌝ }
 {
     let (failing, other) = match side {
         Side::Deliverer => (trade.deliverer, trade.receiver),
@@ -43,7 +42,7 @@ fn charge_side<S: Source>(
     trade: Trade,
     side: Side,
 ) -> Result<Charge, Fault>
-    ensures { λ r. ⌜ r ≡ resultOf (answers (meaning (now (source .entry)))) (chargingSide (now (opted .entry)) (termsOf trade) side (daysBetween (now (calendar .entry) .business) (trade .span .from) (trade .span .end))) ⌝ }
+    ensures value { λ r. ⌜ r ≡ resultOf (answers (meaning (now (source .entry)))) (chargingSide (now (opted .entry)) (termsOf trade) side (daysBetween (now (calendar .entry) .business) (trade .span .from) (trade .span .end))) ⌝ }
 {
     let f = figure_of(source, calendar, opted, trade, side)?;
     Ok(charge_of(trade, side, f))
@@ -55,7 +54,7 @@ fn charge_both<S: Source>(
     opted: &[bool; 90],
     trade: Trade,
 ) -> Result<Charges, Fault>
-    ensures { λ r. ⌜ r ≡ resultOf (answers (meaning (now (source .entry)))) (charging (now (opted .entry)) (termsOf trade) Failing.Both (daysBetween (now (calendar .entry) .business) (trade .span .from) (trade .span .end))) ⌝ }
+    ensures value { λ r. ⌜ r ≡ resultOf (answers (meaning (now (source .entry)))) (charging (now (opted .entry)) (termsOf trade) Failing.Both (daysBetween (now (calendar .entry) .business) (trade .span .from) (trade .span .end))) ⌝ }
 {
     let a = charge_side(source, calendar, opted, trade, Side::Deliverer)?;
     let b = charge_side(source, calendar, opted, trade, Side::Receiver)?;
@@ -69,7 +68,7 @@ fn charge_one<S: Source>(
     trade: Trade,
     side: Side,
 ) -> Result<Charges, Fault>
-    ensures { λ r. ⌜ r ≡ resultOf (answers (meaning (now (source .entry)))) (chargingOne (now (opted .entry)) (termsOf trade) side (daysBetween (now (calendar .entry) .business) (trade .span .from) (trade .span .end))) ⌝ }
+    ensures value { λ r. ⌜ r ≡ resultOf (answers (meaning (now (source .entry)))) (chargingOne (now (opted .entry)) (termsOf trade) side (daysBetween (now (calendar .entry) .business) (trade .span .from) (trade .span .end))) ⌝ }
 {
     let a = charge_side(source, calendar, opted, trade, side)?;
     Ok(Charges::One(a))
@@ -82,7 +81,7 @@ fn charge<S: Source>(
     opted: &[bool; 90],
     trade: Trade,
 ) -> Result<Charges, Fault>
-    ensures { λ r. ⌜ r ≡ resultOf (answers (meaning (now (source .entry)))) (charging (now (opted .entry)) (termsOf trade) (trade .span .failing) (daysBetween (now (calendar .entry) .business) (trade .span .from) (trade .span .end))) ⌝ }
+    ensures value { λ r. ⌜ r ≡ resultOf (answers (meaning (now (source .entry)))) (charging (now (opted .entry)) (termsOf trade) (trade .span .failing) (daysBetween (now (calendar .entry) .business) (trade .span .from) (trade .span .end))) ⌝ }
 {
     match trade.span.failing {
         Failing::OnlyDeliverer => charge_one(source, calendar, opted, trade, Side::Deliverer),
@@ -98,20 +97,9 @@ pub fn charges<S: Source>(
     opted: &[bool; 90],
     report: Report,
 ) -> Result<Charges, Fault>
-    ensures { λ r. ⌜ r ≡ chargesOf (now (calendar .entry) .business) (now (opted .entry)) (answers (meaning (now (source .entry)))) report ⌝ }
+    ensures value { λ r. ⌜ r ≡ chargesOf (now (calendar .entry) .business) (now (opted .entry)) (answers (meaning (now (source .entry)))) report ⌝ }
+    ensures reads { λ r. ⌜ Depends-on-reads (now (calendar .entry) .business) (now (opted .entry)) (answers (meaning (now (source .entry)))) report r ⌝ }
 {
     let trade = check(calendar, report)?;
     charge(source, calendar, opted, trade)
-}
-
-pub fn depends_on_reads() -> u8
-    ensures { λ _. ⌜ Depends-on-reads ⌝ }
-{
-    0
-}
-
-pub fn figures_stand() -> u8
-    ensures { λ _. ⌜ Figures ⌝ }
-{
-    0
 }

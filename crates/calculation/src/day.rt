@@ -25,7 +25,7 @@ use reference::source::Source;
 const GREATEST_WORTH: u64 = 10_000_000_000_000;
 
 pub(crate) fn sheet_of<S: Source>(source: &S, security: u16, day: u16) -> Result<SecuritySheet, Fault>
-    ensures { λ r. ⌜ r ≡ resultOf (answers (meaning (now (source .entry)))) (readsSecurity security day gives) ⌝ }
+    ensures value { λ r. ⌜ r ≡ resultOf (answers (meaning (now (source .entry)))) (readsSecurity security day gives) ⌝ }
 {
     match raw::security(source, security, day) {
         Some(s) => Ok(s),
@@ -43,7 +43,7 @@ fn sheet_if<S: Source>(
     currency: u8,
     day: u16,
 ) -> Result<Option<CurrencySheet>, Fault>
-    ensures { λ r. ⌜ r ≡ resultOf (answers (meaning (now (source .entry)))) (sheetIf needed currency day) ⌝ }
+    ensures value { λ r. ⌜ r ≡ resultOf (answers (meaning (now (source .entry)))) (sheetIf needed currency day) ⌝ }
 {
     if !needed {
         return Ok(None);
@@ -65,8 +65,8 @@ fn day_of_security<S: Source>(
     currency: u8,
     day: u16,
 ) -> Result<u64, Fault>
-    ensures is { λ r. ⌜ r ≡ resultOf (answers (meaning (now (source .entry)))) (dayOfSecurity (termsOf trade) side currency day) ⌝ }
-    ensures small { λ r. ⌜ made r (λ a. a ≤ 2 * 10 ^ 16) ⌝ }
+    ensures value { λ r. ⌜ r ≡ resultOf (answers (meaning (now (source .entry)))) (dayOfSecurity (termsOf trade) side currency day) ⌝ }
+    ensures bound { λ r. ⌜ made r (λ a. a ≤ 2 * 10 ^ 16) ⌝ }
 {
     let s = sheet_of(source, trade.security, day)?;
     let penalty = needs_penalty_sheet(trade.kind, side, s.currency, currency);
@@ -87,8 +87,8 @@ fn day_of_security<S: Source>(
 }
 
 fn day_of_cash<S: Source>(source: &S, trade: Trade, currency: u8, day: u16) -> Result<u64, Fault>
-    ensures is { λ r. ⌜ r ≡ resultOf (answers (meaning (now (source .entry)))) (dayOfCash (termsOf trade) currency day) ⌝ }
-    ensures small { λ r. ⌜ made r (λ a. a ≤ 2 * 10 ^ 16) ⌝ }
+    ensures value { λ r. ⌜ r ≡ resultOf (answers (meaning (now (source .entry)))) (dayOfCash (termsOf trade) currency day) ⌝ }
+    ensures bound { λ r. ⌜ made r (λ a. a ≤ 2 * 10 ^ 16) ⌝ }
 {
     match raw::currency(source, currency, day) {
         Some(s) => Ok(cash_part(trade, s.rate)),
@@ -108,8 +108,8 @@ pub(crate) fn day_of<S: Source>(
     currency: u8,
     day: u16,
 ) -> Result<u64, Fault>
-    ensures is { λ r. ⌜ r ≡ resultOf (answers (meaning (now (source .entry)))) (dayOf (termsOf trade) side currency day) ⌝ }
-    ensures small { λ r. ⌜ made r (λ a. a ≤ 2 * 10 ^ 16) ⌝ }
+    ensures value { λ r. ⌜ r ≡ resultOf (answers (meaning (now (source .entry)))) (dayOf (termsOf trade) side currency day) ⌝ }
+    ensures bound { λ r. ⌜ made r (λ a. a ≤ 2 * 10 ^ 16) ⌝ }
 {
     if has_security_part(trade.kind) {
         day_of_security(source, trade, side, currency, day)

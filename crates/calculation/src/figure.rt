@@ -19,13 +19,13 @@ use reference::source::Source;
 
 fn is_opted(opted: &[bool; 90], party: u16) -> bool
     requires { ⌜ 1000 ≤ party ⌝ ∗ ⌜ party ≤ 9999 ⌝ }
-    ensures { λ r. ⌜ r ≡ isOpted (now (opted .entry)) party ⌝ }
+    ensures value { λ r. ⌜ r ≡ isOpted (now (opted .entry)) party ⌝ }
 {
     opted[(party / 100 - 10) as usize]
 }
 
 fn free_currency(opted: &[bool; 90], trade: Trade, priced: u8) -> u8
-    ensures { λ r. ⌜ r ≡ freeCurrency (now (opted .entry)) (termsOf trade) priced ⌝ }
+    ensures value { λ r. ⌜ r ≡ freeCurrency (now (opted .entry)) (termsOf trade) priced ⌝ }
 {
     if priced == 1 && (is_opted(opted, trade.deliverer) || is_opted(opted, trade.receiver)) {
         1
@@ -35,7 +35,7 @@ fn free_currency(opted: &[bool; 90], trade: Trade, priced: u8) -> u8
 }
 
 fn is_free(kind: Kind) -> bool
-    ensures { λ r. ⌜ r ≡ isFree kind ⌝ }
+    ensures value { λ r. ⌜ r ≡ isFree kind ⌝ }
 {
     match kind {
         Kind::FreeOfPayment => true,
@@ -49,7 +49,7 @@ fn currency_of<S: Source>(
     opted: &[bool; 90],
     trade: Trade,
 ) -> Result<u8, Fault>
-    ensures { λ r. ⌜ r ≡ resultOf (answers (meaning (now (source .entry)))) (currencyOf (now (opted .entry)) (termsOf trade) (daysBetween (now (calendar .entry) .business) (trade .span .from) (trade .span .end))) ⌝ }
+    ensures value { λ r. ⌜ r ≡ resultOf (answers (meaning (now (source .entry)))) (currencyOf (now (opted .entry)) (termsOf trade) (daysBetween (now (calendar .entry) .business) (trade .span .from) (trade .span .end))) ⌝ }
 {
     if !is_free(trade.kind) {
         return Ok(trade.currency);
@@ -66,7 +66,7 @@ fn amount_of<S: Source>(
     side: Side,
     currency: u8,
 ) -> Result<u64, Fault>
-    ensures { λ r. ⌜ r ≡ resultOf (answers (meaning (now (source .entry)))) (sumOf (dayOf (termsOf trade) side currency) (daysBetween (now (calendar .entry) .business) (trade .span .from) (trade .span .end))) ⌝ }
+    ensures value { λ r. ⌜ r ≡ resultOf (answers (meaning (now (source .entry)))) (sumOf (dayOf (termsOf trade) side currency) (daysBetween (now (calendar .entry) .business) (trade .span .from) (trade .span .end))) ⌝ }
 {
     let mut sum = 0;
     for d in trade.span.from..trade.span.end {
@@ -87,7 +87,7 @@ pub(crate) fn figure_of<S: Source>(
     trade: Trade,
     side: Side,
 ) -> Result<Figure, Fault>
-    ensures { λ r. ⌜ r ≡ resultOf (answers (meaning (now (source .entry)))) (penalty (now (opted .entry)) (termsOf trade) side (daysBetween (now (calendar .entry) .business) (trade .span .from) (trade .span .end))) ⌝ }
+    ensures value { λ r. ⌜ r ≡ resultOf (answers (meaning (now (source .entry)))) (penalty (now (opted .entry)) (termsOf trade) side (daysBetween (now (calendar .entry) .business) (trade .span .from) (trade .span .end))) ⌝ }
 {
     let currency = currency_of(source, calendar, opted, trade)?;
     let amount = amount_of(source, calendar, trade, side, currency)?;

@@ -3,5 +3,6 @@ pub mod charge;
 pub mod charges;
 mod day;
 mod figure;
+pub mod figures;
 mod parts;
 mod rounding;

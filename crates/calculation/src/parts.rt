@@ -11,7 +11,7 @@ use sheets::sheet::CurrencySheet;
 use sheets::sheet::SecuritySheet;
 
 fn by_cash_rate(kind: Kind, side: Side) -> bool
-    ensures { λ r. ⌜ r ≡ byCashRate kind side ⌝ }
+    ensures value { λ r. ⌜ r ≡ byCashRate kind side ⌝ }
 {
     match (kind, side) {
         (Kind::AgainstPayment, Side::Receiver) => true,
@@ -20,7 +20,7 @@ fn by_cash_rate(kind: Kind, side: Side) -> bool
 }
 
 pub(crate) fn has_security_part(kind: Kind) -> bool
-    ensures { λ r. ⌜ r ≡ hasSecurityPart kind ⌝ }
+    ensures value { λ r. ⌜ r ≡ hasSecurityPart kind ⌝ }
 {
     match kind {
         Kind::PaymentOnly => false,
@@ -29,7 +29,7 @@ pub(crate) fn has_security_part(kind: Kind) -> bool
 }
 
 fn has_cash_part(kind: Kind) -> bool
-    ensures { λ r. ⌜ r ≡ hasCashPart kind ⌝ }
+    ensures value { λ r. ⌜ r ≡ hasCashPart kind ⌝ }
 {
     match kind {
         Kind::WithPayment | Kind::PaymentOnly => true,
@@ -38,19 +38,19 @@ fn has_cash_part(kind: Kind) -> bool
 }
 
 pub(crate) fn needs_penalty_sheet(kind: Kind, side: Side, priced: u8, currency: u8) -> bool
-    ensures { λ r. ⌜ r ≡ needsPenaltySheet kind side priced currency ⌝ }
+    ensures value { λ r. ⌜ r ≡ needsPenaltySheet kind side priced currency ⌝ }
 {
     by_cash_rate(kind, side) || has_cash_part(kind) || (priced != currency && currency != 0)
 }
 
 pub(crate) fn needs_price_sheet(priced: u8, currency: u8) -> bool
-    ensures { λ r. ⌜ r ≡ needsPriceSheet priced currency ⌝ }
+    ensures value { λ r. ⌜ r ≡ needsPriceSheet priced currency ⌝ }
 {
     priced != currency && priced != 0
 }
 
 fn euro_value(currency: u8, sheet: Option<CurrencySheet>) -> u32
-    ensures is { λ r. ⌜ r ≡ euroValue currency sheet ⌝ }
+    ensures value { λ r. ⌜ r ≡ euroValue currency sheet ⌝ }
     ensures low { λ r. ⌜ 1 ≤ r ⌝ }
     ensures high { λ r. ⌜ r ≤ 10 ^ 7 ⌝ }
 {
@@ -61,8 +61,8 @@ fn euro_value(currency: u8, sheet: Option<CurrencySheet>) -> u32
 }
 
 pub(crate) fn rate_of(sheet: Option<CurrencySheet>) -> u32
-    ensures is { λ r. ⌜ r ≡ rateOf sheet ⌝ }
-    ensures small { λ r. ⌜ r ≤ 100000 ⌝ }
+    ensures value { λ r. ⌜ r ≡ rateOf sheet ⌝ }
+    ensures bound { λ r. ⌜ r ≤ 100000 ⌝ }
 {
     match sheet {
         None => 0,
@@ -72,8 +72,8 @@ pub(crate) fn rate_of(sheet: Option<CurrencySheet>) -> u32
 
 pub(crate) fn cash_part(trade: Trade, rate: u32) -> u64
     requires { ⌜ rate ≤ 100000 ⌝ }
-    ensures is { λ r. ⌜ r ≡ cashPart (termsOf trade) rate ⌝ }
-    ensures small { λ r. ⌜ r ≤ 10 ^ 16 ⌝ }
+    ensures value { λ r. ⌜ r ≡ cashPart (termsOf trade) rate ⌝ }
+    ensures bound { λ r. ⌜ r ≤ 10 ^ 16 ⌝ }
 {
     if has_cash_part(trade.kind) {
         part_of(100 * trade.cash, rate, 1, 1)
@@ -83,8 +83,8 @@ pub(crate) fn cash_part(trade: Trade, rate: u32) -> u64
 }
 
 fn security_rate(trade: Trade, side: Side, sheet: SecuritySheet, p: Option<CurrencySheet>) -> u32
-    ensures is { λ r. ⌜ r ≡ securityRate (termsOf trade) side sheet p ⌝ }
-    ensures small { λ r. ⌜ r ≤ 100000 ⌝ }
+    ensures value { λ r. ⌜ r ≡ securityRate (termsOf trade) side sheet p ⌝ }
+    ensures bound { λ r. ⌜ r ≤ 100000 ⌝ }
 {
     if by_cash_rate(trade.kind, side) {
         rate_of(p)
@@ -102,8 +102,8 @@ pub(crate) fn security_part(
     q: Option<CurrencySheet>,
 ) -> u64
     requires { ⌜ trade .quantity * s .price ≤ 10 ^ 13 ⌝ }
-    ensures is { λ r. ⌜ r ≡ securityPart (termsOf trade) side currency s p q ⌝ }
-    ensures small { λ r. ⌜ r ≤ 10 ^ 16 ⌝ }
+    ensures value { λ r. ⌜ r ≡ securityPart (termsOf trade) side currency s p q ⌝ }
+    ensures bound { λ r. ⌜ r ≤ 10 ^ 16 ⌝ }
 {
     let v = trade.quantity as u64 * s.price as u64;
     let rate = security_rate(trade, side, s, p);

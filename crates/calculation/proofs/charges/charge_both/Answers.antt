@@ -20,7 +20,7 @@ returns-in-Break-a g c =
     let days = daysBetween (c .args .calendar .now .business) (c .args .trade .span .from) (c .args .trade .span .end) in
     let second : Steps Charge = chargingSide (c .args .opted .now) (termsOf (c .args .trade)) Receiver days in
     let next : Charge → Steps Charges = λ x. second >>= (λ y. gives (Two x y)) in
-    rw (p .1, p .2) (then-err (answers (g .S·Source .meaning (c .args .source .now))) (chargingSide (c .args .opted .now) (termsOf (c .args .trade)) Deliverer days) next _ (c .in-Break-a .ensures tt))
+    record { value = rw (p .1, p .2) (then-err (answers (g .S·Source .meaning (c .args .source .now))) (chargingSide (c .args .opted .now) (termsOf (c .args .trade)) Deliverer days) next _ (c .in-Break-a .ensures tt .value)) }
 
 pub returns-in-Break-b : need.returns-in-Break-b
 returns-in-Break-b g c =
@@ -29,7 +29,7 @@ returns-in-Break-b g c =
     let days = daysBetween (c .args .calendar .now .business) (c .args .trade .span .from) (c .args .trade .span .end) in
     let second : Steps Charge = chargingSide (c .args .opted .now) (termsOf (c .args .trade)) Receiver days in
     let next : Charge → Steps Charges = λ x. second >>= (λ y. gives (Two x y)) in
-    rw (p .1, p .2) (then-ok m (chargingSide (c .args .opted .now) (termsOf (c .args .trade)) Deliverer days) next (c .in-Continue-a .a) _ (c .in-Continue-a .ensures tt) (then-err m second (λ y. gives (Two (c .in-Continue-a .a) y)) _ (c .in-Break-b .ensures tt)))
+    record { value = rw (p .1, p .2) (then-ok m (chargingSide (c .args .opted .now) (termsOf (c .args .trade)) Deliverer days) next (c .in-Continue-a .a) _ (c .in-Continue-a .ensures tt .value) (then-err m second (λ y. gives (Two (c .in-Continue-a .a) y)) _ (c .in-Break-b .ensures tt .value))) }
 
 pub returns : need.returns
 returns g c =
@@ -37,4 +37,4 @@ returns g c =
     let days = daysBetween (c .args .calendar .now .business) (c .args .trade .span .from) (c .args .trade .span .end) in
     let second : Steps Charge = chargingSide (c .args .opted .now) (termsOf (c .args .trade)) Receiver days in
     let next : Charge → Steps Charges = λ x. second >>= (λ y. gives (Two x y)) in
-    then-ok m (chargingSide (c .args .opted .now) (termsOf (c .args .trade)) Deliverer days) next (c .in-Continue-a .a) _ (c .in-Continue-a .ensures tt) (then-ok m second (λ y. gives (Two (c .in-Continue-a .a) y)) (c .in-Continue-b .b) _ (c .in-Continue-b .ensures tt) refl)
+    record { value = then-ok m (chargingSide (c .args .opted .now) (termsOf (c .args .trade)) Deliverer days) next (c .in-Continue-a .a) _ (c .in-Continue-a .ensures tt .value) (then-ok m second (λ y. gives (Two (c .in-Continue-a .a) y)) (c .in-Continue-b .b) _ (c .in-Continue-b .ensures tt .value) refl) }

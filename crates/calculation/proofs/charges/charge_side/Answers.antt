@@ -14,9 +14,9 @@ pub returns-in-Break-f : need.returns-in-Break-f
 returns-in-Break-f g c =
     let p = err-from-errBy (c .from-residual .result) (c .from-residual .ensures .1) in
     let days = daysBetween (c .args .calendar .now .business) (c .args .trade .span .from) (c .args .trade .span .end) in
-    rw (p .1, p .2) (then-err (answers (g .S·Source .meaning (c .args .source .now))) (penalty (c .args .opted .now) (termsOf (c .args .trade)) (c .args .side) days) (λ f. gives (chargeOf (termsOf (c .args .trade)) (c .args .side) f)) _ (c .in-Break-f .ensures tt))
+    record { value = rw (p .1, p .2) (then-err (answers (g .S·Source .meaning (c .args .source .now))) (penalty (c .args .opted .now) (termsOf (c .args .trade)) (c .args .side) days) (λ f. gives (chargeOf (termsOf (c .args .trade)) (c .args .side) f)) _ (c .in-Break-f .ensures tt .value)) }
 
 pub returns : need.returns
 returns g c =
     let days = daysBetween (c .args .calendar .now .business) (c .args .trade .span .from) (c .args .trade .span .end) in
-    then-ok (answers (g .S·Source .meaning (c .args .source .now))) (penalty (c .args .opted .now) (termsOf (c .args .trade)) (c .args .side) days) (λ f. gives (chargeOf (termsOf (c .args .trade)) (c .args .side) f)) (c .in-Continue-f .f) _ (c .in-Continue-f .ensures tt) (ap Ok (c .charge-of .ensures))
+    record { value = then-ok (answers (g .S·Source .meaning (c .args .source .now))) (penalty (c .args .opted .now) (termsOf (c .args .trade)) (c .args .side) days) (λ f. gives (chargeOf (termsOf (c .args .trade)) (c .args .side) f)) (c .in-Continue-f .f) _ (c .in-Continue-f .ensures tt .value) (ap Ok (c .charge-of .ensures .value)) }

@@ -18,16 +18,16 @@ loop-d-again-then-not-calendar-d g c =
 
 pub loop-d-again : need.loop-d-again
 loop-d-again g c =
-    (sum-more (answers (g .S·Source .meaning (c .args .source .now))) (dayOf (termsOf (c .args .trade)) (c .args .side) (c .args .currency)) (c .args .calendar .now .business) _ (c .loop-d .sum) (c .in-Continue-amount .amount) (c .loop-d .d) (c .args .trade .span .end) (c .loop-d-test .taken) (c .if-not-calendar-d .left) (c .in-Continue-amount .ensures tt .is) (c .loop-d .inv .0), omega (arith, c .loop-d .inv .1, c .in-Continue-amount .ensures tt .small))
+    (sum-more (answers (g .S·Source .meaning (c .args .source .now))) (dayOf (termsOf (c .args .trade)) (c .args .side) (c .args .currency)) (c .args .calendar .now .business) _ (c .loop-d .sum) (c .in-Continue-amount .amount) (c .loop-d .d) (c .args .trade .span .end) (c .loop-d-test .taken) (c .if-not-calendar-d .left) (c .in-Continue-amount .ensures tt .value) (c .loop-d .inv .0), omega (arith, c .loop-d .inv .1, c .in-Continue-amount .ensures tt .bound))
 
 pub returns-in-Break-amount : need.returns-in-Break-amount
 returns-in-Break-amount g c =
     let p = err-from-errBy (c .from-residual .result) (c .from-residual .ensures .1) in
-    rw (p .1, p .2) (sum-stop (answers (g .S·Source .meaning (c .args .source .now))) (dayOf (termsOf (c .args .trade)) (c .args .side) (c .args .currency)) (c .args .calendar .now .business) _ (c .loop-d .sum) (c .loop-d .d) (c .args .trade .span .end) _ (c .loop-d-test .taken) (c .if-not-calendar-d .left) (c .in-Break-amount .ensures tt .is) (c .loop-d .inv .0))
+    record { value = rw (p .1, p .2) (sum-stop (answers (g .S·Source .meaning (c .args .source .now))) (dayOf (termsOf (c .args .trade)) (c .args .side) (c .args .currency)) (c .args .calendar .now .business) _ (c .loop-d .sum) (c .loop-d .d) (c .args .trade .span .end) _ (c .loop-d-test .taken) (c .if-not-calendar-d .left) (c .in-Break-amount .ensures tt .value) (c .loop-d .inv .0)) }
 
 pub add-sum : need.add-sum
-add-sum g c = let y : c .args .trade .span .end ≤ 372 = c .args .trade .span .year in omega (arith, c .loop-d .inv .1, c .in-Continue-amount .ensures tt .small, c .loop-d-test .taken, y)
+add-sum g c = let y : c .args .trade .span .end ≤ 372 = c .args .trade .span .year in omega (arith, c .loop-d .inv .1, c .in-Continue-amount .ensures tt .bound, c .loop-d-test .taken, y)
 
 pub returns : need.returns
 returns g c =
-    sum-all (answers (g .S·Source .meaning (c .args .source .now))) (dayOf (termsOf (c .args .trade)) (c .args .side) (c .args .currency)) (c .args .calendar .now .business) _ (c .loop-d .sum) (c .loop-d .d) (c .args .trade .span .end) (c .loop-d-test .left) (c .loop-d .inv .0)
+    record { value = sum-all (answers (g .S·Source .meaning (c .args .source .now))) (dayOf (termsOf (c .args .trade)) (c .args .side) (c .args .currency)) (c .args .calendar .now .business) _ (c .loop-d .sum) (c .loop-d .d) (c .args .trade .span .end) (c .loop-d-test .left) (c .loop-d .inv .0) }

@@ -1,0 +1,27 @@
+use mathlib.Core.Path.{refl}
+use Rattle.calculation.specs.Penalties.{penalty}
+use Rattle.calculation.proofs.figures.worked_figures.Needs as need
+
+pub returns : need.returns
+unfolding penalty
+returns c = record {
+  value = refl;
+  figures = record {
+    deliverer-fails = refl;
+    receiver-fails = refl;
+    free-in-euro = refl;
+    deliverer-opted = refl;
+    receiver-opted = refl;
+    with-payment = refl;
+    payment-only = refl;
+    rounded-up = refl;
+    rounded-down = refl;
+    both-fail = refl;
+    neither-fails = refl;
+    before-cut-off = refl;
+    after-cut-off = refl;
+    no-used-day = refl;
+    largest-worth = refl;
+    worth-too-large = refl;
+  };
+}
