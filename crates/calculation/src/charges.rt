@@ -6,18 +6,18 @@ ghost use Rattle.reports.specs.Terms.{termsOf};
 ghost use Rattle.reference.specs.Meaning.{answers};
 ghost use Rattle.calculation.specs.Charging.{chargeOf, chargingSide, chargingOne, charging, chargesOf};
 ghost use Rattle.calculation.specs.Reading.{Depends-on-reads};
-use crate::figure::figure_of;
-use reports::calendar::Calendar;
-use reports::check::check;
 use crate::charge::Charge;
 use crate::charge::Charges;
-use reports::report::Failing;
 use crate::charge::Figure;
+use crate::figure::figure_of;
+use reference::source::Source;
+use reports::calendar::Calendar;
+use reports::check::check;
+use reports::report::Failing;
 use reports::report::Report;
 use reports::report::Side;
 use reports::report::Trade;
 use sheets::fault::Fault;
-use reference::source::Source;
 
 fn charge_of(trade: Trade, side: Side, figure: Figure) -> Charge
     ensures value { λ r. ⌜ r ≡ chargeOf (termsOf trade) side figure ⌝ }

@@ -12,6 +12,8 @@ use crate::parts::needs_penalty_sheet;
 use crate::parts::needs_price_sheet;
 use crate::parts::rate_of;
 use crate::parts::security_part;
+use reference::raw;
+use reference::source::Source;
 use reports::report::Side;
 use reports::report::Trade;
 use sheets::fault::Fault;
@@ -19,12 +21,14 @@ use sheets::fault::Layer;
 use sheets::fault::Rule;
 use sheets::sheet::CurrencySheet;
 use sheets::sheet::SecuritySheet;
-use reference::raw;
-use reference::source::Source;
 
 const GREATEST_WORTH: u64 = 10_000_000_000_000;
 
-pub(crate) fn sheet_of<S: Source>(source: &S, security: u16, day: u16) -> Result<SecuritySheet, Fault>
+pub(crate) fn sheet_of<S: Source>(
+    source: &S,
+    security: u16,
+    day: u16,
+) -> Result<SecuritySheet, Fault>
     ensures value { λ r. ⌜ r ≡ resultOf (answers (meaning (now (source .entry)))) (readsSecurity security day gives) ⌝ }
 {
     match raw::security(source, security, day) {

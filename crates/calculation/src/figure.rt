@@ -6,16 +6,16 @@ ghost use Rattle.calculation.specs.Steps.{resultOf};
 ghost use Rattle.reference.specs.Meaning.{answers};
 ghost use Rattle.reports.specs.Terms.{termsOf};
 ghost use Rattle.calculation.specs.Penalties.{isOpted, freeCurrency, isFree, currencyOf, dayOf, sumOf, penalty};
+use crate::charge::Figure;
 use crate::day::day_of;
 use crate::day::sheet_of;
+use reference::source::Source;
 use reports::calendar::Calendar;
 use reports::days::last_day;
-use crate::charge::Figure;
 use reports::report::Kind;
 use reports::report::Side;
 use reports::report::Trade;
 use sheets::fault::Fault;
-use reference::source::Source;
 
 fn is_opted(opted: &[bool; 90], party: u16) -> bool
     requires { ⌜ 1000 ≤ party ⌝ ∗ ⌜ party ≤ 9999 ⌝ }

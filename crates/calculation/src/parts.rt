@@ -3,10 +3,10 @@ ghost use mathlib.Core.Path.{_≡_};
 ghost use Prim.Native.Nat.{ℕ, _+_, _*_, _^_, _<_, _≤_};
 ghost use Rattle.reports.specs.Terms.{termsOf};
 ghost use Rattle.calculation.specs.Penalties.{byCashRate, hasSecurityPart, hasCashPart, needsPenaltySheet, needsPriceSheet, euroValue, rateOf, cashPart, securityRate, securityPart};
+use crate::rounding::part_of;
 use reports::report::Kind;
 use reports::report::Side;
 use reports::report::Trade;
-use crate::rounding::part_of;
 use sheets::sheet::CurrencySheet;
 use sheets::sheet::SecuritySheet;
 

@@ -1,3 +1,4 @@
 pub mod Marking
 pub mod Between
 pub mod Fits
+pub mod Using

@@ -1,3 +1,4 @@
 pub mod Days
 pub mod Terms
 pub mod Reports
+pub mod UsedDays

@@ -5,6 +5,9 @@ ghost use Prim.Native.Nat.{ℕ, _+_, _-_, _<_, _≤_};
 ghost use lib.Dec.{eqb};
 ghost use Rattle.std.specs.declared.option.Option.the-variants.{None};
 ghost use Rattle.sheets.specs.Refusals.{Answers, fault, securityRefusal};
+ghost use Rattle.std.specs.Vec.{made as taken};
+ghost use Rattle.reports.specs.Days.{daysBetween};
+ghost use Rattle.reports.specs.UsedDays.{UsedDays};
 ghost use Rattle.reports.specs.Reports.{isParty, partiesFit, kindOf, securitiesFit, cashFits, fieldsFit, isReason, isOdd, isMet, reasonsFit, failingOf, causeRefusal, reportRefusal, SpanOf, TradeOf};
 use crate::calendar::Calendar;
 use crate::days::has_day;
@@ -237,6 +240,7 @@ fn check_security(kind: u8, security: u16) -> Result<(), Fault>
 // The trade of a report, or the first rule that the report breaks.
 pub fn check(calendar: &Calendar, report: Report) -> Result<Trade, Fault>
     ensures made { λ r. ⌜ Answers (reportRefusal (now (calendar .entry) .business) report) r (TradeOf (now (calendar .entry) .business) report) ⌝ }
+    ensures used { λ r. ⌜ taken r (λ t. UsedDays (now (calendar .entry) .business) (report .cause) (daysBetween (now (calendar .entry) .business) (t .span .from) (t .span .end))) ⌝ }
 {
     if !parties_fit(report) {
         return Err(refused(Rule::NoSuchParty, report.instruction as u64, 0));
