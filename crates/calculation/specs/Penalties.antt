@@ -14,7 +14,11 @@ use Rattle.reports.specs.declared.report.Kind.the-variants.{AgainstPayment, Fre
 use Rattle.reports.specs.declared.report.Side.{Side}
 use Rattle.reports.specs.declared.report.Side.the-variants.{Deliverer, Receiver}
 use Rattle.reports.specs.Terms.{Terms}
+use Rattle.sheets.specs.declared.fault.Fault.{Fault}
+use Rattle.sheets.specs.declared.fault.Rule.the-variants.{ValueTooLarge}
+use Rattle.sheets.specs.declared.fault.Layer.the-variants.{Calculation}
 use Rattle.sheets.specs.Classes.{classRate}
+use Rattle.sheets.specs.Refusals.{fault, when}
 use Rattle.sheets.specs.Limits.{greatestWorth, firstParty}
 use Rattle.calculation.specs.declared.charge.Figure.{Figure}
 use Rattle.reports.specs.Days.{lastOr}
@@ -68,12 +72,25 @@ cashPart t rate = cond (hasCashPart (t .kind)) (part (100 * t .cash) rate 1 1) 0
 abbrev pub securityRate : Terms → Side → SecuritySheet → Option CurrencySheet → ℕ
 securityRate t side s p = cond (byCashRate (t .kind) side) (rateOf p) (classRate (s .class))
 
+-- the euro values of a price's currency and of the penalty currency, both 1 if these are the same
+abbrev pub priceValue : ℕ → ℕ → Option CurrencySheet → ℕ
+priceValue priced currency q = cond (eqb priced currency) 1 (euroValue priced q)
+
+abbrev pub penaltyValue : ℕ → ℕ → Option CurrencySheet → ℕ
+penaltyValue priced currency p = cond (eqb priced currency) 1 (euroValue currency p)
+
 -- the security part by its sheet s, the penalty currency's sheet p and the price currency's sheet q
 abbrev pub securityPart : Terms → Side → ℕ → SecuritySheet → Option CurrencySheet → Option CurrencySheet → ℕ
 securityPart t side currency s p q =
-    cond (eqb (s .currency) currency)
-    (part (t .quantity * s .price) (securityRate t side s p) 1 1)
-    (part (t .quantity * s .price) (securityRate t side s p) (euroValue (s .currency) q) (euroValue currency p))
+    part (t .quantity * s .price) (securityRate t side s p) (priceValue (s .currency) currency q) (penaltyValue (s .currency) currency p)
+
+-- all parts of one day
+abbrev pub partsOf : Terms → Side → ℕ → SecuritySheet → Option CurrencySheet → Option CurrencySheet → ℕ
+partsOf t side currency s p q = securityPart t side currency s p q + cashPart t (rateOf p)
+
+-- a worth above its limit is a fault
+abbrev pub worthRefusal : ℕ → ℕ → ℕ → Option Fault
+worthRefusal security day worth = when (ltb greatestWorth worth) (fault ValueTooLarge Calculation security day) None
 
 -- the parts of one used day
 abbrev pub dayOfSecurity : Terms → Side → ℕ → ℕ → Steps ℕ
@@ -83,7 +100,7 @@ dayOfSecurity t side currency day =
     sheetIf (needsPriceSheet (s .currency) currency) (s .currency) day >>= (λ q.
     cond (ltb greatestWorth (t .quantity * s .price))
     (tooLarge (t .security) day)
-    (gives (securityPart t side currency s p q + cashPart t (rateOf p))))))
+    (gives (partsOf t side currency s p q)))))
 
 abbrev pub dayOfCash : Terms → ℕ → ℕ → Steps ℕ
 dayOfCash t currency day = readsCurrency currency day (λ p. gives (cashPart t (p .rate)))

@@ -2,16 +2,17 @@
 ghost use mathlib.Core.Path.{_≡_};
 ghost use Prim.Native.Nat.{ℕ, _+_, _*_, _^_, _<_, _≤_};
 ghost use Rattle.std.specs.Vec.{made};
+ghost use Rattle.sheets.specs.Limits.{greatestWorth};
+ghost use Rattle.sheets.specs.Refusals.{Answers};
 ghost use Rattle.calculation.specs.Steps.{resultOf, readsSecurity, gives};
 ghost use Rattle.reference.specs.Meaning.{answers};
 ghost use Rattle.reports.specs.Terms.{termsOf};
-ghost use Rattle.calculation.specs.Penalties.{sheetIf, dayOfSecurity, dayOfCash, dayOf};
-use crate::parts::cash_part;
+ghost use Rattle.calculation.specs.Penalties.{sheetIf, worthRefusal, dayOfSecurity, dayOfCash, dayOf};
+use crate::parts::cash_alone;
 use crate::parts::has_security_part;
 use crate::parts::needs_penalty_sheet;
 use crate::parts::needs_price_sheet;
-use crate::parts::rate_of;
-use crate::parts::security_part;
+use crate::parts::parts_of;
 use reference::raw;
 use reference::source::Source;
 use reports::report::Side;
@@ -62,6 +63,22 @@ fn sheet_if<S: Source>(
     }
 }
 
+// What the securities are worth at the day's price, or the fault that this is too much.
+fn worth_of(trade: Trade, price: u32, day: u16) -> Result<u64, Fault>
+    ensures value { λ r. ⌜ Answers (worthRefusal (trade .security) day (trade .quantity * price)) r (λ v. v ≡ trade .quantity * price) ⌝ }
+    ensures bound { λ r. ⌜ made r (λ v. v ≤ greatestWorth) ⌝ }
+{
+    let worth = trade.quantity as u64 * price as u64;
+    if worth > GREATEST_WORTH {
+        return Err(Fault {
+            rule: Rule::ValueTooLarge,
+            layer: Layer::Calculation,
+            place: (trade.security as u64, day as u64),
+        });
+    }
+    Ok(worth)
+}
+
 fn day_of_security<S: Source>(
     source: &S,
     trade: Trade,
@@ -77,17 +94,8 @@ fn day_of_security<S: Source>(
     let p = sheet_if(source, penalty, currency, day)?;
     let price = needs_price_sheet(s.currency, currency);
     let q = sheet_if(source, price, s.currency, day)?;
-    if trade.quantity as u64 * s.price as u64 > GREATEST_WORTH {
-        return Err(Fault {
-            rule: Rule::ValueTooLarge,
-            layer: Layer::Calculation,
-            place: (trade.security as u64, day as u64),
-        });
-    }
-    let part = security_part(trade, side, currency, s, p, q);
-    let rate = rate_of(p);
-    let cash = cash_part(trade, rate);
-    Ok(part + cash)
+    let worth = worth_of(trade, s.price, day)?;
+    Ok(parts_of(trade, side, currency, s, p, q, worth))
 }
 
 fn day_of_cash<S: Source>(source: &S, trade: Trade, currency: u8, day: u16) -> Result<u64, Fault>
@@ -95,7 +103,7 @@ fn day_of_cash<S: Source>(source: &S, trade: Trade, currency: u8, day: u16) -> R
     ensures bound { λ r. ⌜ made r (λ a. a ≤ 2 * 10 ^ 16) ⌝ }
 {
     match raw::currency(source, currency, day) {
-        Some(s) => Ok(cash_part(trade, s.rate)),
+        Some(s) => Ok(cash_alone(trade, s)),
         None => Err(Fault {
             rule: Rule::CurrencyMissing,
             layer: Layer::Calculation,

@@ -1,6 +1,7 @@
 // What a report is charged: who pays whom, in which currency and how much.
 pub mod charge;
 pub mod charges;
+mod conversion;
 mod day;
 mod figure;
 pub mod figures;

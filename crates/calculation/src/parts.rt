@@ -1,14 +1,19 @@
 // The parts of one day.
 ghost use mathlib.Core.Path.{_≡_};
 ghost use Prim.Native.Nat.{ℕ, _+_, _*_, _^_, _<_, _≤_};
+ghost use Rattle.sheets.specs.Limits.{greatestRate, greatestWorth};
 ghost use Rattle.reports.specs.Terms.{termsOf};
-ghost use Rattle.calculation.specs.Penalties.{byCashRate, hasSecurityPart, hasCashPart, needsPenaltySheet, needsPriceSheet, euroValue, rateOf, cashPart, securityRate, securityPart};
+ghost use Rattle.calculation.specs.Penalties.{byCashRate, hasSecurityPart, hasCashPart, needsPenaltySheet, needsPriceSheet, euroValue, rateOf, cashPart, securityRate, priceValue, penaltyValue, securityPart, partsOf};
+use crate::conversion::Conversion;
 use crate::rounding::part_of;
 use reports::report::Kind;
 use reports::report::Side;
 use reports::report::Trade;
 use sheets::sheet::CurrencySheet;
 use sheets::sheet::SecuritySheet;
+
+// What a euro is worth, in millionths of a euro.
+const EURO: u32 = 1_000_000;
 
 fn by_cash_rate(kind: Kind, side: Side) -> bool
     ensures value { λ r. ⌜ r ≡ byCashRate kind side ⌝ }
@@ -55,14 +60,14 @@ fn euro_value(currency: u8, sheet: Option<CurrencySheet>) -> u32
     ensures high { λ r. ⌜ r ≤ 10 ^ 7 ⌝ }
 {
     match sheet {
-        None => 1_000_000,
-        Some(s) => if currency == 0 { 1_000_000 } else { s.value },
+        Some(s) if currency != 0 => s.value,
+        _ => EURO,
     }
 }
 
-pub(crate) fn rate_of(sheet: Option<CurrencySheet>) -> u32
+fn rate_of(sheet: Option<CurrencySheet>) -> u32
     ensures value { λ r. ⌜ r ≡ rateOf sheet ⌝ }
-    ensures bound { λ r. ⌜ r ≤ 100000 ⌝ }
+    ensures bound { λ r. ⌜ r ≤ greatestRate ⌝ }
 {
     match sheet {
         None => 0,
@@ -70,21 +75,28 @@ pub(crate) fn rate_of(sheet: Option<CurrencySheet>) -> u32
     }
 }
 
-pub(crate) fn cash_part(trade: Trade, rate: u32) -> u64
-    requires { ⌜ rate ≤ 100000 ⌝ }
+fn cash_part(trade: Trade, rate: u32) -> u64
+    requires { ⌜ rate ≤ greatestRate ⌝ }
     ensures value { λ r. ⌜ r ≡ cashPart (termsOf trade) rate ⌝ }
     ensures bound { λ r. ⌜ r ≤ 10 ^ 16 ⌝ }
 {
-    if has_cash_part(trade.kind) {
-        part_of(100 * trade.cash, rate, 1, 1)
-    } else {
-        0
+    if !has_cash_part(trade.kind) {
+        return 0;
     }
+    part_of(100 * trade.cash, rate, Conversion { from: 1, into: 1 })
+}
+
+// The cash part alone, where no securities are exchanged.
+pub(crate) fn cash_alone(trade: Trade, sheet: CurrencySheet) -> u64
+    ensures value { λ r. ⌜ r ≡ cashPart (termsOf trade) (sheet .rate) ⌝ }
+    ensures bound { λ r. ⌜ r ≤ 10 ^ 16 ⌝ }
+{
+    cash_part(trade, sheet.rate)
 }
 
 fn security_rate(trade: Trade, side: Side, sheet: SecuritySheet, p: Option<CurrencySheet>) -> u32
     ensures value { λ r. ⌜ r ≡ securityRate (termsOf trade) side sheet p ⌝ }
-    ensures bound { λ r. ⌜ r ≤ 100000 ⌝ }
+    ensures bound { λ r. ⌜ r ≤ greatestRate ⌝ }
 {
     if by_cash_rate(trade.kind, side) {
         rate_of(p)
@@ -93,25 +105,58 @@ fn security_rate(trade: Trade, side: Side, sheet: SecuritySheet, p: Option<Curre
     }
 }
 
-pub(crate) fn security_part(
+// From the price's currency, by its sheet q, into the penalty currency, by its sheet p.
+fn conversion_of(
+    priced: u8,
+    q: Option<CurrencySheet>,
+    currency: u8,
+    p: Option<CurrencySheet>,
+) -> Conversion
+    ensures from { λ r. ⌜ r .from ≡ priceValue priced currency q ⌝ }
+    ensures into { λ r. ⌜ r .into ≡ penaltyValue priced currency p ⌝ }
+{
+    if priced == currency {
+        return Conversion { from: 1, into: 1 };
+    }
+    let from = euro_value(priced, q);
+    let into = euro_value(currency, p);
+    Conversion { from, into }
+}
+
+fn security_part(
     trade: Trade,
     side: Side,
     currency: u8,
     s: SecuritySheet,
     p: Option<CurrencySheet>,
     q: Option<CurrencySheet>,
+    worth: u64,
 ) -> u64
-    requires { ⌜ trade .quantity * s .price ≤ 10 ^ 13 ⌝ }
+    requires { ⌜ worth ≡ trade .quantity * s .price ⌝ ∗ ⌜ worth ≤ greatestWorth ⌝ }
     ensures value { λ r. ⌜ r ≡ securityPart (termsOf trade) side currency s p q ⌝ }
     ensures bound { λ r. ⌜ r ≤ 10 ^ 16 ⌝ }
 {
-    let v = trade.quantity as u64 * s.price as u64;
     let rate = security_rate(trade, side, s, p);
-    if s.currency == currency {
-        part_of(v, rate, 1, 1)
-    } else {
-        let f = euro_value(s.currency, q);
-        let t = euro_value(currency, p);
-        part_of(v, rate, f, t)
-    }
+    let by = conversion_of(s.currency, q, currency, p);
+    part_of(worth, rate, by)
+}
+
+// The parts of a day, each rounded by itself, by the day's sheets.
+pub(crate) fn parts_of(
+    trade: Trade,
+    side: Side,
+    currency: u8,
+    s: SecuritySheet,
+    p: Option<CurrencySheet>,
+    q: Option<CurrencySheet>,
+    worth: u64,
+) -> u64
+    requires { ⌜ worth ≡ trade .quantity * s .price ⌝ ∗ ⌜ worth ≤ greatestWorth ⌝ }
+    ensures value { λ r. ⌜ r ≡ partsOf (termsOf trade) side currency s p q ⌝ }
+    ensures bound { λ r. ⌜ r ≤ 2 * 10 ^ 16 ⌝ }
+{
+    let part = security_part(trade, side, currency, s, p, q, worth);
+    let rate = rate_of(p);
+    let cash = cash_part(trade, rate);
+    part + cash
 }

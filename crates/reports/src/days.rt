@@ -1,8 +1,8 @@
 // The used days of a trade.
 ghost use mathlib.Core.Path.{_≡_};
-ghost use mathlib.Core.Bool.{not};
+ghost use mathlib.Core.Bool.{cond, not};
 ghost use Prim.Native.Nat.{ℕ, _+_, _-_, _<_, _≤_};
-ghost use Rattle.reports.specs.Days.{daysBetween, lastOr, isEmpty};
+ghost use Rattle.reports.specs.Days.{isBusiness, daysBetween, lastOr, isEmpty};
 use crate::calendar::Calendar;
 use crate::report::Span;
 
@@ -19,16 +19,24 @@ pub(crate) fn has_day(calendar: &Calendar, from: u16, end: u16) -> bool
     false
 }
 
+// The later of the last used day so far and the day d, which counts only if it is a business day.
+fn last_with(calendar: &Calendar, last: u16, d: u16) -> u16
+    requires { ⌜ d < 372 ⌝ }
+    ensures value { λ r. ⌜ r ≡ cond (isBusiness (now (calendar .entry) .business) d) d last ⌝ }
+{
+    if !calendar.business[d as usize] {
+        return last;
+    }
+    d
+}
+
 // The last used day, or 0 if there is none.
 pub fn last_day(calendar: &Calendar, span: Span) -> u16
     ensures value { λ r. ⌜ r ≡ lastOr 0 (daysBetween (now (calendar .entry) .business) (span .from) (span .end)) ⌝ }
 {
     let mut last = 0;
     for d in span.from..span.end {
-        if !calendar.business[d as usize] {
-            continue;
-        }
-        last = d;
+        last = last_with(calendar, last, d);
     }
     last
 }
