@@ -6,11 +6,7 @@ use Rattle.std.specs.declared.result.Result.{Result}
 use Rattle.std.specs.declared.result.Result.the-variants.{Ok, Err}
 use Rattle.sheets.specs.declared.fault.Fault.{Fault}
 use Rattle.reference.specs.Meaning.{Sheets}
-use Rattle.calculation.specs.Steps.{Steps, gives, tooLarge, readsSecurity, readsCurrency, _>>=_, found, resultOf}
-
-abbrev pub andThen : {A B : Type 0} → Result A Fault → (A → Result B Fault) → Result B Fault
-andThen (Ok a) next = next a
-andThen (Err f) next = Err f
+use Rattle.calculation.specs.Steps.{Steps, gives, tooLarge, readsSecurity, readsCurrency, _>>=_, andThen, found, resultOf}
 
 found-then : {S A B : Type 0} (o : Option S) (f : Fault) (one : S → Result A Fault) (both : S → Result B Fault) (next : A → Result B Fault) → ((s : S) → both s ≡ andThen (one s) next) → found o (Err f) both ≡ andThen (found o (Err f) one) next
 found-then None f one both next h = refl

@@ -14,6 +14,8 @@ use Rattle.reports.specs.declared.report.Kind.the-variants.{AgainstPayment, Fre
 use Rattle.reports.specs.declared.report.Side.{Side}
 use Rattle.reports.specs.declared.report.Side.the-variants.{Deliverer, Receiver}
 use Rattle.reports.specs.Terms.{Terms}
+use Rattle.std.specs.declared.result.Result.{Result}
+use Rattle.std.specs.declared.result.Result.the-variants.{Ok}
 use Rattle.sheets.specs.declared.fault.Fault.{Fault}
 use Rattle.sheets.specs.declared.fault.Rule.the-variants.{ValueTooLarge}
 use Rattle.sheets.specs.declared.fault.Layer.the-variants.{Calculation}
@@ -23,7 +25,7 @@ use Rattle.sheets.specs.Limits.{greatestWorth, firstParty}
 use Rattle.calculation.specs.declared.charge.Figure.{Figure}
 use Rattle.reports.specs.Days.{lastOr}
 use Rattle.calculation.specs.Rounding.{part}
-use Rattle.calculation.specs.Steps.{Steps, gives, tooLarge, readsSecurity, readsCurrency, _>>=_}
+use Rattle.calculation.specs.Steps.{Steps, gives, tooLarge, readsSecurity, readsCurrency, _>>=_, andThen}
 
 -- the security part goes by the cash rate where the receiver fails against payment
 abbrev pub byCashRate : Kind → Side → Bool
@@ -107,6 +109,10 @@ dayOfCash t currency day = readsCurrency currency day (λ p. gives (cashPart t (
 
 abbrev pub dayOf : Terms → Side → ℕ → ℕ → Steps ℕ
 dayOf t side currency day = cond (hasSecurityPart (t .kind)) (dayOfSecurity t side currency day) (dayOfCash t currency day)
+
+-- a sum, with one more amount or its fault
+abbrev pub plus : ℕ → Result ℕ Fault → Result ℕ Fault
+plus sum r = andThen r (λ a. Ok (sum + a))
 
 -- the sum over the used days
 abbrev pub sumOf : (ℕ → Steps ℕ) → List ℕ → Steps ℕ

@@ -34,6 +34,11 @@ abbrev pub found : {S B : Type 0} → Option S → B → (S → B) → B
 found None missing next = missing
 found (Some s) missing next = next s
 
+-- a result goes on, a fault stays
+abbrev pub andThen : {A B : Type 0} → Result A Fault → (A → Result B Fault) → Result B Fault
+andThen (Ok a) next = next a
+andThen (Err f) next = Err f
+
 -- what the steps come to
 abbrev pub resultOf : {A : Type 0} → Sheets → Steps A → Result A Fault
 resultOf t (gives a) = Ok a

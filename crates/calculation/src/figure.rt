@@ -1,11 +1,14 @@
 // A penalty's currency and amount.
 ghost use mathlib.Core.Path.{_≡_};
+ghost use mathlib.Core.Bool.{cond};
 ghost use Prim.Native.Nat.{ℕ, _+_, _-_, _*_, _^_, _<_, _≤_};
-ghost use Rattle.reports.specs.Days.{daysBetween};
+ghost use Rattle.reports.specs.Days.{isBusiness, daysBetween};
+ghost use Rattle.std.specs.Vec.{made};
+ghost use Rattle.std.specs.declared.result.Result.the-variants.{Ok};
 ghost use Rattle.calculation.specs.Steps.{resultOf};
 ghost use Rattle.reference.specs.Meaning.{answers};
 ghost use Rattle.reports.specs.Terms.{termsOf};
-ghost use Rattle.calculation.specs.Penalties.{isOpted, freeCurrency, isFree, currencyOf, dayOf, sumOf, penalty};
+ghost use Rattle.calculation.specs.Penalties.{isOpted, freeCurrency, isFree, currencyOf, dayOf, plus, sumOf, penalty};
 use crate::charge::Figure;
 use crate::day::day_of;
 use crate::day::sheet_of;
@@ -59,6 +62,27 @@ fn currency_of<S: Source>(
     Ok(free_currency(opted, trade, s.currency))
 }
 
+// The sum after the day d, which counts only if it is a business day.
+fn with_day<S: Source>(
+    source: &S,
+    calendar: &Calendar,
+    trade: Trade,
+    side: Side,
+    currency: u8,
+    sum: u64,
+    d: u16,
+) -> Result<u64, Fault>
+    requires { ⌜ d < 372 ⌝ ∗ ⌜ sum ≤ 2 * 10 ^ 16 * d ⌝ }
+    ensures value { λ r. ⌜ r ≡ cond (isBusiness (now (calendar .entry) .business) d) (plus sum (resultOf (answers (meaning (now (source .entry)))) (dayOf (termsOf trade) side currency d))) (Ok sum) ⌝ }
+    ensures bound { λ r. ⌜ made r (λ a. a ≤ 2 * 10 ^ 16 * (d + 1)) ⌝ }
+{
+    if !calendar.business[d as usize] {
+        return Ok(sum);
+    }
+    let amount = day_of(source, trade, side, currency, d)?;
+    Ok(sum + amount)
+}
+
 fn amount_of<S: Source>(
     source: &S,
     calendar: &Calendar,
@@ -70,11 +94,7 @@ fn amount_of<S: Source>(
 {
     let mut sum = 0;
     for d in trade.span.from..trade.span.end {
-        if !calendar.business[d as usize] {
-            continue;
-        }
-        let amount = day_of(source, trade, side, currency, d)?;
-        sum += amount;
+        sum = with_day(source, calendar, trade, side, currency, sum, d)?;
     }
     Ok(sum)
 }
