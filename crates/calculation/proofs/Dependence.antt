@@ -13,7 +13,7 @@ use Rattle.calculation.specs.Charging.{unless, chargesOf, chargesReads, stepsO
 use Rattle.reports.specs.Reports.{reportRefusal}
 use Rattle.reports.specs.declared.report.Report.{Report}
 use Rattle.calculation.specs.declared.charge.Charges.{Charges}
-use Rattle.calculation.specs.Reading.{AgreeOn, Depends-on-reads}
+use Rattle.calculation.specs.Reading.{AgreeOn, DependsOnReads}
 
 module _ (m n : Sheets) where
   -- the same answer and the same reads
@@ -39,7 +39,7 @@ module _ (m n : Sheets) where
   unrefused None p agree = same-steps p agree
   unrefused (Some f) p agree = (refl, refl)
 
-pub depends : (marks opted : List Bool) (m : Sheets) (report : Report) (r : Result Charges Fault) → r ≡ chargesOf marks opted m report → Depends-on-reads marks opted m report r
+pub depends : (marks opted : List Bool) (m : Sheets) (report : Report) (r : Result Charges Fault) → r ≡ chargesOf marks opted m report → DependsOnReads marks opted m report r
 depends marks opted m report r e n agree =
     let same = unrefused m n (reportRefusal marks report) (stepsOf marks opted report) agree in
     (same .0 ∙ sym e, same .1)

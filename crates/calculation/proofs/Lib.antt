@@ -4,3 +4,4 @@ mod DaySteps
 pub mod Sums
 mod Whole
 mod Dependence
+mod Worked

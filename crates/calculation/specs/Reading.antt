@@ -22,7 +22,7 @@ AgreeOn m n (r ∷ rs) = SameAt m n r × AgreeOn m n rs
 
 -- A charge depends on nothing of the source but the sheets at its reads: over any other sheets that agree there, the same is
 -- read and the answer is r.
-abbrev pub Depends-on-reads : List Bool → List Bool → Sheets → Report → Result Charges Fault → Type 0
-Depends-on-reads marks opted m report r =
+abbrev pub DependsOnReads : List Bool → List Bool → Sheets → Report → Result Charges Fault → Type 0
+DependsOnReads marks opted m report r =
     (n : Sheets) → AgreeOn m n (chargesReads marks opted m report)
     → (chargesOf marks opted n report ≡ r) × (chargesReads marks opted n report ≡ chargesReads marks opted m report)

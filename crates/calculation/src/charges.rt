@@ -5,7 +5,8 @@ ghost use Rattle.calculation.specs.Steps.{resultOf};
 ghost use Rattle.reports.specs.Terms.{termsOf};
 ghost use Rattle.reference.specs.Meaning.{answers};
 ghost use Rattle.calculation.specs.Charging.{chargeOf, chargingSide, chargingOne, charging, chargesOf};
-ghost use Rattle.calculation.specs.Reading.{Depends-on-reads};
+ghost use Rattle.calculation.specs.Figures.{Figures};
+ghost use Rattle.calculation.specs.Reading.{DependsOnReads};
 use crate::charge::Charge;
 use crate::charge::Charges;
 use crate::charge::Figure;
@@ -90,7 +91,19 @@ fn charge<S: Source>(
     }
 }
 
-// The charges of a report, or the first fault.
+fn checked_charges<S: Source>(
+    source: &S,
+    calendar: &Calendar,
+    opted: &[bool; 90],
+    report: Report,
+) -> Result<Charges, Fault>
+    ensures value { λ r. ⌜ r ≡ chargesOf (now (calendar .entry) .business) (now (opted .entry)) (answers (meaning (now (source .entry)))) report ⌝ }
+{
+    let trade = check(calendar, report)?;
+    charge(source, calendar, opted, trade)
+}
+
+// What a report is charged, or the first rule that it breaks.
 pub fn charges<S: Source>(
     source: &S,
     calendar: &Calendar,
@@ -98,8 +111,8 @@ pub fn charges<S: Source>(
     report: Report,
 ) -> Result<Charges, Fault>
     ensures value { λ r. ⌜ r ≡ chargesOf (now (calendar .entry) .business) (now (opted .entry)) (answers (meaning (now (source .entry)))) report ⌝ }
-    ensures reads { λ r. ⌜ Depends-on-reads (now (calendar .entry) .business) (now (opted .entry)) (answers (meaning (now (source .entry)))) report r ⌝ }
+    ensures reads { λ r. ⌜ DependsOnReads (now (calendar .entry) .business) (now (opted .entry)) (answers (meaning (now (source .entry)))) report r ⌝ }
+    ensures figures { λ _. ⌜ Figures ⌝ }
 {
-    let trade = check(calendar, report)?;
-    charge(source, calendar, opted, trade)
+    checked_charges(source, calendar, opted, report)
 }

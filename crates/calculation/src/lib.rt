@@ -4,6 +4,5 @@ pub mod charges;
 mod conversion;
 mod day;
 mod figure;
-pub mod figures;
 mod parts;
 mod rounding;
