@@ -1,0 +1,4 @@
+pub mod Carried
+pub mod Layer
+pub mod Laws
+pub mod Own

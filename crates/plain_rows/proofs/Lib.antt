@@ -1,0 +1,5 @@
+pub mod Places
+pub mod Filling
+pub mod Found
+pub mod Entering
+pub mod Plainly

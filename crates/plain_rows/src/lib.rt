@@ -1,0 +1,3 @@
+// Plain rows: a source that is rows which the caller lends.
+pub mod plain;
+pub mod rows;
