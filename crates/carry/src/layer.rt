@@ -4,6 +4,8 @@ ghost use mathlib.Core.Bool.{true, false};
 ghost use Prim.Native.Nat.{_+_, _-_, _≤_, min};
 ghost use Rattle.std.specs.Options.{Cases};
 ghost use Rattle.reference.specs.Meaning.{SecurityEntered, CurrencyEntered};
+ghost use Rattle.std.specs.Vec.{made};
+ghost use Rattle.carry.specs.Laws.{Greatest, IsLatest};
 ghost use Rattle.carry.specs.Carried.{latest, silent, spread, greatestReach};
 ghost use Rattle.carry.specs.Layer.{carryMeaning, EnteredBelow};
 use reference::source::Source;
@@ -42,7 +44,10 @@ pub impl<S: Source> Source for Carry<S> as CarrySource {
 
     ghost own = { λ s. S·Source .own (s .below) };
 
-    fn security(&self, security: Security, day: Day) -> Option<SecuritySheet> {
+    fn security(&self, security: Security, day: Day) -> Option<SecuritySheet>
+        ensures value { λ r. ⌜ r ≡ carryMeaning (S·Source .meaning (now (self .entry) .below)) (now (self .entry) .reach) .securities .sheet (security .number) (day .number) ⌝ }
+        ensures latest { λ r. ⌜ IsLatest (S·Source .meaning (now (self .entry) .below) .securities .sheet (security .number)) (now (self .entry) .reach) (day .number) r ⌝ }
+    {
         latest_of(&self.below, security, day, self.reach)
     }
 
@@ -57,6 +62,7 @@ pub impl<S: Source> Source for Carry<S> as CarrySource {
         sheet: SecuritySheet,
     ) -> Result<Day, Fault>
         ensures entered { λ r. ⌜ SecurityEntered (carryMeaning (S·Source .meaning (now (self .entry) .below)) (now (self .entry) .reach)) (carryMeaning (S·Source .meaning (now (self .exit) .below)) (now (self .exit) .reach)) (security .number) (day .number) sheet r ⌝ }
+        ensures greatest { λ r. ⌜ made r (λ e. Greatest (S·Source .meaning (now (self .entry) .below) .securities .sheet (security .number)) (now (self .entry) .reach) (S·Source .meaning (now (self .entry) .below) .securities .reach (security .number) (day .number) sheet) (e .number)) ⌝ }
         ensures after { λ r. ⌜ EnteredBelow (S·Source .meaning (now (self .entry) .below)) (S·Source .meaning (now (self .exit) .below)) (security .number) (day .number) sheet r ⌝ }
         ensures same { λ _. ⌜ now (self .exit) .reach ≡ now (self .entry) .reach ⌝ }
     {
@@ -123,13 +129,13 @@ fn silent_next<S: Source>(source: &S, security: Security, e: Day) -> Option<Day>
 fn spread_of<S: Source>(source: &S, security: Security, e: Day, reach: u8) -> Day
     ensures value { λ r. ⌜ r .number ≡ spread (meaning (now (source .entry)) .securities .sheet (security .number)) reach (e .number) ⌝ }
 {
-    let mut n = reach;
+    let mut left = reach;
     let mut end = e;
-    while n > 0 {
+    while left > 0 {
         let Some(next) = silent_next(source, security, end) else {
             return end;
         };
-        n -= 1;
+        left -= 1;
         end = next;
     }
     end

@@ -3,7 +3,7 @@ ghost use mathlib.Core.Path.{_≡_};
 ghost use mathlib.Core.Bool.{Bool};
 ghost use Prim.Native.Nat.{ℕ};
 ghost use lib.ListN.{length, replicate};
-ghost use Rattle.plain_rows.specs.Rows.{anyNumber, ownNumber, unusedRow, filed, sits, free, firstPlace, entryPlace, rowsTable, RowEntered};
+ghost use Rattle.plain_rows.specs.Rows.{anyNumber, ownNumber, unusedRow, filed, sits, free, entryRow, firstPlace, entryPlace, rowsTable, RowEntered};
 use sheets::fault::Fault;
 use sheets::fault::Layer;
 use sheets::fault::Rule;
@@ -127,6 +127,17 @@ pub fn row_sheet<T: Filed>(rows: &[Row<T>], number: u16, day: u16) -> Option<T>
 }
 
 // The entry reaches its own day only.
+fn entry_row<T: Filed>(number: u16, day: u16, sheet: T) -> Row<T>
+    ensures value { λ r. ⌜ r ≡ entryRow number day sheet ⌝ }
+{
+    Row {
+        number,
+        day,
+        sheet: Some(sheet),
+    }
+}
+
+// Overwrites the row of its number and day, or takes the first unused row; an entry in rows reaches its own day only.
 pub fn enter_row<T: Filed>(
     rows: &mut [Row<T>],
     number: u16,
@@ -137,11 +148,7 @@ pub fn enter_row<T: Filed>(
 {
     let i = entry_place(rows, number, day.number);
     if i < rows.len() {
-        rows[i] = Row {
-            number,
-            day: day.number,
-            sheet: Some(sheet),
-        };
+        rows[i] = entry_row(number, day.number, sheet);
         return Ok(day);
     }
     Err(Fault {

@@ -24,6 +24,8 @@ use Rattle.plain_rows.specs.declared.rows.Row.{Row}
 use Rattle.plain_rows.specs.Rows.{found, sits, filed, holds, rowsTable, anyNumber, ownNumber, RowTaken, RowEntered}
 use Rattle.carry.specs.Carried.{orElse, latest, spread, carried, wholeYear, whole-year}
 use Rattle.steps.specs.Steps.{stepsMeaning}
+use Rattle.std.specs.Vec.{made}
+use Rattle.carry.specs.Laws.{Greatest}
 use Rattle.steps.specs.Stepped.{orLater, laterOf, nearerOf, Last, LastStep, NextStep}
 use Rattle.carry.proofs.Carrying.{spread-greatest, spread-agree, carry-taken}
 use Rattle.plain_rows.proofs.Entering.{elsewhere}
@@ -210,3 +212,9 @@ steps-security before after others k d s (Err f) y h = record { asked = h .asked
 pub steps-currency : (others : List (Row SecuritySheet)) (before after : List (Row CurrencySheet)) (d : ℕ) (s : CurrencySheet) (r : Result Day Fault) → d ≤ lastDay → RowEntered ownNumber before after (s .currency) d s (spread (rowsTable ownNumber before .sheet (s .currency)) wholeYear d) r → CurrencyEntered (stepsMeaning others before) (stepsMeaning others after) d s r
 steps-currency others before after d s (Ok e) y h = (step-taken ownNumber before after (s .currency) d s (e .number) y (eq-eqb (s .currency) (s .currency) refl) h, refl)
 steps-currency others before after d s (Err f) y h = record { asked = h .asked; says = h .says; same = ap (stepsMeaning others) (h .rows-are) }
+
+-- the answer to a taken entry is the greatest day before the next
+pub steps-greatest : {T : Type 0} (stands : ℕ → T → Bool) (before after : List (Row T)) (k d : ℕ) (s : T) (r : Result Day Fault) → d ≤ lastDay → RowEntered stands before after k d s (spread (rowsTable stands before .sheet k) wholeYear d) r → made r (λ e. Greatest (rowsTable stands before .sheet k) wholeYear d (e .number))
+steps-greatest stands before after k d s (Ok e) y h =
+    let t = rowsTable stands before .sheet k in subst (Greatest t wholeYear d) (sym (h .day-is)) (spread-greatest t wholeYear d y)
+steps-greatest stands before after k d s (Err f) y h = tt

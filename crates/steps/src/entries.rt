@@ -4,6 +4,8 @@ ghost use lib.ListN.{replicate};
 ghost use Rattle.reference.specs.Meaning.{SecurityEntered, CurrencyEntered};
 ghost use Rattle.plain_rows.specs.Rows.{anyNumber, ownNumber, unusedRow, rowsTable, RowEntered, RowsAfter};
 ghost use Rattle.carry.specs.Carried.{carried, wholeYear};
+ghost use Rattle.std.specs.Vec.{made};
+ghost use Rattle.carry.specs.Laws.{Greatest, IsLatest};
 ghost use Rattle.steps.specs.Stepped.{LastStep, NextStep, orLater, laterOf, nearerOf};
 ghost use Rattle.steps.specs.Steps.{stepsMeaning};
 ghost use Rattle.plain_rows.specs.Own.{rows-own};
@@ -47,11 +49,17 @@ pub impl Source for Steps as StepsSource {
 
     ghost own = { λ s. carried-own (rowsTable ownNumber (s .currencies)) wholeYear (rows-own (s .currencies)) };
 
-    fn security(&self, security: Security, day: Day) -> Option<SecuritySheet> {
+    fn security(&self, security: Security, day: Day) -> Option<SecuritySheet>
+        ensures value { λ r. ⌜ r ≡ stepsMeaning (now (self .entry) .securities) (now (self .entry) .currencies) .securities .sheet (security .number) (day .number) ⌝ }
+        ensures latest { λ r. ⌜ IsLatest (rowsTable anyNumber (now (self .entry) .securities) .sheet (security .number)) wholeYear (day .number) r ⌝ }
+    {
         step_sheet(&self.securities, security.number, day)
     }
 
-    fn currency(&self, currency: Currency, day: Day) -> Option<CurrencySheet> {
+    fn currency(&self, currency: Currency, day: Day) -> Option<CurrencySheet>
+        ensures value { λ r. ⌜ r ≡ stepsMeaning (now (self .entry) .securities) (now (self .entry) .currencies) .currencies .sheet (currency .number) (day .number) ⌝ }
+        ensures latest { λ r. ⌜ IsLatest (rowsTable ownNumber (now (self .entry) .currencies) .sheet (currency .number)) wholeYear (day .number) r ⌝ }
+    {
         step_sheet(&self.currencies, currency.number as u16, day)
     }
 
@@ -62,6 +70,7 @@ pub impl Source for Steps as StepsSource {
         sheet: SecuritySheet,
     ) -> Result<Day, Fault>
         ensures entered { λ r. ⌜ SecurityEntered (stepsMeaning (now (self .entry) .securities) (now (self .entry) .currencies)) (stepsMeaning (now (self .exit) .securities) (now (self .exit) .currencies)) (security .number) (day .number) sheet r ⌝ }
+        ensures greatest { λ r. ⌜ made r (λ e. Greatest (rowsTable anyNumber (now (self .entry) .securities) .sheet (security .number)) wholeYear (day .number) (e .number)) ⌝ }
         ensures after { λ r. ⌜ RowsAfter anyNumber (now (self .entry) .securities) (now (self .exit) .securities) (security .number) (day .number) sheet r ⌝ }
         ensures same { λ _. ⌜ now (self .exit) .currencies ≡ now (self .entry) .currencies ⌝ }
     {
@@ -70,6 +79,7 @@ pub impl Source for Steps as StepsSource {
 
     fn enter_currency(&mut self, day: Day, sheet: CurrencySheet) -> Result<Day, Fault>
         ensures entered { λ r. ⌜ CurrencyEntered (stepsMeaning (now (self .entry) .securities) (now (self .entry) .currencies)) (stepsMeaning (now (self .exit) .securities) (now (self .exit) .currencies)) (day .number) sheet r ⌝ }
+        ensures greatest { λ r. ⌜ made r (λ e. Greatest (rowsTable ownNumber (now (self .entry) .currencies) .sheet (sheet .currency)) wholeYear (day .number) (e .number)) ⌝ }
         ensures after { λ r. ⌜ RowsAfter ownNumber (now (self .entry) .currencies) (now (self .exit) .currencies) (sheet .currency) (day .number) sheet r ⌝ }
         ensures same { λ _. ⌜ now (self .exit) .securities ≡ now (self .entry) .securities ⌝ }
     {

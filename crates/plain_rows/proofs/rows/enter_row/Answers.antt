@@ -12,7 +12,7 @@ returns-then-i-rows g c =
       entered = record {
         asked = takes-is (g .T·Filed .stands) (c .args .rows .now) (c .args .number) (c .args .day .number) ∙ lt-ltb _ _ (rw here at (c .if-i-rows .taken));
         day-is = refl;
-        rows-are = ap (λ i. set (c .args .rows .now) i (entryRow (c .args .number) (c .args .day .number) (c .args .sheet))) here;
+        rows-are = ap (set (c .args .rows .now) (c .entry-place-i .result)) (c .entry-row .ensures .value) ∙ ap (λ i. set (c .args .rows .now) i (entryRow (c .args .number) (c .args .day .number) (c .args .sheet))) here;
       };
     }
 
