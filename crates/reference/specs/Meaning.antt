@@ -14,7 +14,8 @@ use Rattle.sheets.specs.declared.sheet.SecuritySheet.{SecuritySheet}
 use Rattle.sheets.specs.declared.sheet.CurrencySheet.{CurrencySheet}
 use Rattle.sheets.specs.declared.units.Day.{Day}
 use Rattle.sheets.specs.Limits.{lastDay}
-use Rattle.sheets.specs.Refusals.{fault, noDay, noSecurity, noCurrency, orNext, dayRefusal, securityRefusal}
+use Rattle.sheets.specs.Refusals.{fault, noDay, noSecurity, noCurrency, orNext, dayRefusal, securityRefusal, securitySheetRefusal, currencySheetRefusal}
+use Rattle.sheets.specs.Made.{SecurityOf, CurrencyOf}
 
 -- One kind of sheet, by number and day: the sheet that is answered, whether an entry would be taken, and the last day that
 -- a taken entry reaches.
@@ -86,3 +87,14 @@ currencyEntryRefusal d = dayRefusal Source d
 abbrev pub Unless : Option Fault → Meaning → Meaning → Result Day Fault → Type 0 → Type 0
 Unless None before after r P = P
 Unless (Some f) before after r P = (r ≡ Err f) × (after ≡ before)
+
+-- An entry of raw numbers: the sheet is made first, then it is entered.
+abbrev pub SecurityFiled : Meaning → Meaning → ℕ → ℕ → ℕ → ℕ → ℕ → Result Day Fault → Type 0
+SecurityFiled before after number day price currency class r =
+    Unless (securitySheetRefusal price currency class) before after r
+    ((s : SecuritySheet) × SecurityOf price currency class s × Unless (securityEntryRefusal number day) before after r (SecurityEntered before after number day s r))
+
+abbrev pub CurrencyFiled : Meaning → Meaning → ℕ → ℕ → ℕ → ℕ → Result Day Fault → Type 0
+CurrencyFiled before after currency day rate value r =
+    Unless (currencySheetRefusal currency rate value) before after r
+    ((s : CurrencySheet) × CurrencyOf currency rate value s × Unless (currencyEntryRefusal day) before after r (CurrencyEntered before after day s r))

@@ -1,0 +1,5 @@
+mod Fields
+mod Lists
+mod Lines
+mod Texts
+mod Whole
