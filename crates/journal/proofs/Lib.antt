@@ -1,5 +1,2 @@
-mod Fields
-mod Lists
-mod Lines
-mod Texts
-mod Whole
+pub mod Texts
+pub mod Whole

@@ -14,13 +14,13 @@ use Rattle.std.specs.declared.result.Result.{Result}
 use Rattle.std.specs.declared.result.Result.the-variants.{Ok, Err}
 use Rattle.words.specs.Words.{nextLine, afterLine}
 use Rattle.journal.specs.declared.said.Numbered.{Numbered}
-use Rattle.journal.specs.declared.said.Span.{Span}
+use Rattle.lines.specs.declared.said.Span.{Span}
 use Rattle.journal.specs.declared.said.Journal.{Journal}
 use Rattle.journal.specs.declared.read.NotRead.{NotRead}
 use Rattle.journal.specs.declared.read.NotRead.the-variants as reasons
-use Rattle.journal.specs.declared.unread.Unread.{Unread}
-use Rattle.journal.specs.declared.unread.Unread.the-variants as unread
-use Rattle.journal.specs.Lines.{Said, business, lineOf}
+use Rattle.lines.specs.declared.unread.Unread.{Unread}
+use Rattle.lines.specs.declared.unread.Unread.the-variants as unread
+use Rattle.lines.specs.Lines.{Said, business, lineOf}
 use Rattle.journal.specs.Whole.{Kept, Bad, bad, numbered, marked, adding, addingLine, andOn, readFrom, linesOf, keptBy, unsourced, wanting, finished, allRead, journalOf, Adds, Stops, Holds}
 use Rattle.journal.proofs.Texts.{lines-some, lines-none}
 

@@ -12,19 +12,19 @@ use Rattle.std.specs.declared.option.Option.{Option}
 use Rattle.std.specs.declared.option.Option.the-variants.{Some, None}
 use Rattle.std.specs.declared.result.Result.{Result}
 use Rattle.std.specs.declared.result.Result.the-variants.{Ok, Err}
-use Rattle.journal.specs.declared.expected.Expected.{Expected}
-use Rattle.journal.specs.declared.expected.Expected.the-variants as expected
-use Rattle.journal.specs.declared.said.Span.{Span}
-use Rattle.journal.specs.declared.said.Source.{Source}
-use Rattle.journal.specs.declared.said.Call.{Call}
+use Rattle.lines.specs.declared.expected.Expected.{Expected}
+use Rattle.lines.specs.declared.expected.Expected.the-variants as expected
+use Rattle.lines.specs.declared.said.Span.{Span}
+use Rattle.lines.specs.declared.said.Source.{Source}
+use Rattle.lines.specs.declared.said.Call.{Call}
 use Rattle.journal.specs.declared.said.Numbered.{Numbered}
 use Rattle.journal.specs.declared.said.Journal.{Journal}
 use Rattle.journal.specs.declared.read.Malformed.{Malformed}
 use Rattle.journal.specs.declared.read.NotRead.{NotRead}
 use Rattle.journal.specs.declared.read.NotRead.the-variants as reasons
-use Rattle.journal.specs.declared.unread.Unread.{Unread}
-use Rattle.journal.specs.declared.unread.Unread.the-variants as unread
-use Rattle.journal.specs.Lines.{Said, business, opted, source, call, lineOf}
+use Rattle.lines.specs.declared.unread.Unread.{Unread}
+use Rattle.lines.specs.declared.unread.Unread.the-variants as unread
+use Rattle.lines.specs.Lines.{Said, business, opted, source, call, lineOf}
 
 -- a journal, with its lists in place of the vectors that hold them
 pub record Kept : Type 0 where

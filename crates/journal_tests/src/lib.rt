@@ -3,34 +3,32 @@
 mod tests {
     use journal::read::NotReadDisplay;
     use journal::read::journal_of;
-    use journal::said::Base;
-    use journal::said::Call;
-    use journal::said::CallDebug;
-    use journal::said::CallPartialEq;
-    use journal::said::Event;
     use journal::said::Journal;
-    use journal::said::Quote;
-    use journal::said::Source;
-    use journal::said::SourceDebug;
-    use journal::said::SourcePartialEq;
-    use journal::said::Trade;
-    use journal::shows::Currency;
-    use journal::shows::CurrencyDisplay;
-    use journal::shows::Day;
-    use journal::shows::DayDisplay;
-    use journal::shows::Money;
-    use journal::shows::MoneyDisplay;
-    use journal::shows::Price;
-    use journal::shows::PriceDisplay;
-    use journal::shows::Rate;
-    use journal::shows::RateDisplay;
-    use journal::shows::Refusal;
-    use journal::shows::RefusalDisplay;
-    use journal::shows::Value;
-    use journal::shows::ValueDisplay;
+    use lines::said::Base;
+    use lines::said::Call;
+    use lines::said::CallPartialEq;
+    use lines::said::Event;
+    use lines::said::Quote;
+    use lines::said::Source;
+    use lines::said::SourcePartialEq;
+    use lines::said::Trade;
     use sheets::fault::Fault;
     use sheets::fault::Layer;
     use sheets::fault::Rule;
+    use shows::Currency;
+    use shows::CurrencyDisplay;
+    use shows::Day;
+    use shows::DayDisplay;
+    use shows::Money;
+    use shows::MoneyDisplay;
+    use shows::Price;
+    use shows::PriceDisplay;
+    use shows::Rate;
+    use shows::RateDisplay;
+    use shows::Refusal;
+    use shows::RefusalDisplay;
+    use shows::Value;
+    use shows::ValueDisplay;
     use std::alloc::Global;
     use std::test::*;
 
@@ -46,9 +44,9 @@ mod tests {
     fn taken(heap: Global, text: &[u8]) -> Result<(), Fail> {
         match journal_of(heap, text) {
             Err(why) => check(
-                why.to_string(heap)?
-                    .as_str()
-                    .starts_with("line 1: expected a source line in the journal: "),
+                why.to_string(heap)?.as_str().starts_with(
+                    "line 1: expected a source line in the journal, since it has calls: ",
+                ),
             ),
             Ok(_journal) => Err(Fail::new("it has no source")),
         }
@@ -381,12 +379,12 @@ mod tests {
         refused(
             heap,
             b"source steps\n\nsource steps\n",
-            "line 3: expected no second source line: source steps",
+            "line 3: expected only one source line: source steps",
         )?;
         refused(
             heap,
             b"business 01-01\nsheet security 17 day 02-10\r\nsheet security 18 day 02-10",
-            "line 2: expected a source line in the journal: sheet security 17 day 02-10",
+            "line 2: expected a source line in the journal, since it has calls: sheet security 17 day 02-10",
         )
     }
 
@@ -509,7 +507,7 @@ mod tests {
 
     fn called(heap: Global, text: &[u8], call: Call) -> Result<(), Fail> {
         match journal_of(heap, text) {
-            Ok(journal) => check_eq(first(&journal)?, call),
+            Ok(journal) => check(first(&journal)? == call),
             Err(why) => check_eq(why.to_string(heap)?.as_str(), ""),
         }
     }
@@ -590,7 +588,7 @@ mod tests {
 
     fn source_is(heap: Global, text: &[u8], source: Source) -> Result<(), Fail> {
         match journal_of(heap, text) {
-            Ok(journal) => check_eq(journal.source, Some(source)),
+            Ok(journal) => check(journal.source == Some(source)),
             Err(why) => check_eq(why.to_string(heap)?.as_str(), ""),
         }
     }
@@ -767,7 +765,7 @@ mod tests {
             heap,
             Rule::ReasonsUnlawful,
             (1, 2),
-            "refused 11 3 1 2 # reasons 1 and 2 do not go together",
+            "refused 11 3 1 2 # reasons 1 and 2 do not go together in this type",
         )?;
         says(
             heap,

@@ -1,28 +1,21 @@
 // Reads a journal, carries out its lines one after another, and prints each answer.
+mod help;
+
+use crate::help::HELP;
 use calculation::charge::Charge;
 use calculation::charge::Charges;
 use calculation::charges::charges;
 use carry::layer::Carry;
 use carry::layer::CarrySource;
-use journal::help::HELP;
 use journal::read::NotReadDisplay;
 use journal::read::journal_of;
-use journal::said::Base;
-use journal::said::Call;
-use journal::said::Event;
 use journal::said::Journal;
 use journal::said::Numbered;
-use journal::said::Quote;
-use journal::said::Span;
-use journal::shows;
-use journal::shows::CurrencyDisplay;
-use journal::shows::DayDisplay;
-use journal::shows::MoneyDisplay;
-use journal::shows::PriceDisplay;
-use journal::shows::RateDisplay;
-use journal::shows::Refusal;
-use journal::shows::RefusalDisplay;
-use journal::shows::ValueDisplay;
+use lines::said::Base;
+use lines::said::Call;
+use lines::said::Event;
+use lines::said::Quote;
+use lines::said::Span;
 use plain_rows::plain::PlainRows;
 use plain_rows::plain::PlainSource;
 use plain_rows::rows::Row;
@@ -40,6 +33,14 @@ use sheets::fault::Fault;
 use sheets::sheet::CurrencySheet;
 use sheets::sheet::SecuritySheet;
 use sheets::units::Day;
+use shows::CurrencyDisplay;
+use shows::DayDisplay;
+use shows::MoneyDisplay;
+use shows::PriceDisplay;
+use shows::RateDisplay;
+use shows::Refusal;
+use shows::RefusalDisplay;
+use shows::ValueDisplay;
 use std::env;
 use std::fs;
 use std::io;
@@ -266,6 +267,16 @@ fn told(rt: &LibcRuntime, why: io::Error) -> Stop {
     Stop
 }
 
+// Says which file could not be read, and why.
+fn unread(rt: &LibcRuntime, path: &Option<String>, why: io::Error) -> Stop {
+    let name = match path {
+        Some(path) => path.as_str(),
+        None => "standard input",
+    };
+    let _ = eprintln!(rt, "pugraide: {name}: {why}");
+    Stop
+}
+
 fn run(rt: &LibcRuntime, text: &[u8]) -> Result<(), Stop> {
     match journal_of(rt.alloc(), text) {
         Ok(journal) => match with_source(rt, &journal) {
@@ -280,9 +291,9 @@ fn run(rt: &LibcRuntime, text: &[u8]) -> Result<(), Stop> {
 }
 
 // The journal's text: of the file that is named, or of the standard input.
-fn text_of(rt: &LibcRuntime, path: Option<String>) -> io::Result<Vec<u8>> {
+fn text_of(rt: &LibcRuntime, path: &Option<String>) -> io::Result<Vec<u8>> {
     match path {
-        Some(path) => fs::read(rt, path),
+        Some(path) => fs::read(rt, path.as_str()),
         None => {
             let mut text = Vec::new(rt.alloc());
             rt.stdin().read_to_end(&mut text)?;
@@ -313,8 +324,8 @@ fn main(rt: LibcRuntime) -> Result<(), Stop> {
         let _ = print!(rt, "{HELP}");
         return Ok(());
     }
-    match text_of(&rt, word) {
+    match text_of(&rt, &word) {
         Ok(text) => run(&rt, text.as_slice()),
-        Err(e) => Err(told(&rt, e)),
+        Err(e) => Err(unread(&rt, &word, e)),
     }
 }

@@ -4,7 +4,7 @@ ghost use Prim.Native.Nat.{ℕ, _≤_};
 ghost use Rattle.sheets.specs.Classes.{classNumber, classOf, classRate};
 ghost use Rattle.sheets.specs.Limits.{greatestRate};
 
-#[derive(Clone, Copy, PartialEq, Eq, Debug)]
+#[derive(Clone, Copy)]
 pub enum Class {
     LiquidShare,
     IlliquidShare,

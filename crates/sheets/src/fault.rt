@@ -2,7 +2,7 @@
 ghost use mathlib.Core.Path.{_≡_};
 ghost use Rattle.sheets.specs.Numbers.{numberOf, layerNumber};
 
-#[derive(Clone, Copy, PartialEq, Eq, Debug)]
+#[derive(Clone, Copy)]
 pub enum Rule {
     ValueOutside = 1,
     NoSuchClass = 2,
@@ -21,7 +21,7 @@ pub enum Rule {
     ValueTooLarge = 17,
 }
 
-#[derive(Clone, Copy, PartialEq, Eq, Debug)]
+#[derive(Clone, Copy)]
 pub enum Layer {
     Sheet = 1,
     Source = 2,
@@ -29,7 +29,7 @@ pub enum Layer {
     Book = 4,
 }
 
-#[derive(Clone, Copy, PartialEq, Eq, Debug)]
+#[derive(Clone, Copy)]
 pub struct Fault {
     pub rule: Rule,
     pub layer: Layer,

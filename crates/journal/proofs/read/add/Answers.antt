@@ -1,6 +1,6 @@
 use mathlib.Core.Path.{ap}
 use Rattle.std.specs.Of.Vec.{vec-items}
-use Rattle.journal.specs.Lines.{saidBy}
+use Rattle.lines.specs.Lines.{saidBy}
 use Rattle.journal.specs.Whole.{keptBy}
 use Rattle.journal.proofs.Whole.{adds-days}
 use Rattle.journal.proofs.read.add.Needs as need

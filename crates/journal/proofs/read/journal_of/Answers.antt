@@ -2,7 +2,7 @@ use mathlib.Core.Path.{sym, ap, _∙_}
 use Rattle.std.specs.declared.option.Option.the-variants.{Some, None}
 use Rattle.std.specs.declared.result.Result.the-variants.{Err}
 use Rattle.std.proofs.shelf.Results.{err-from-errBy}
-use Rattle.journal.specs.declared.expected.Expected.the-variants.{SomeSource}
+use Rattle.lines.specs.declared.expected.Expected.the-variants.{SomeSource}
 use Rattle.journal.specs.Whole.{bad}
 use Rattle.journal.proofs.Whole.{journal-stop, journal-at}
 use Rattle.journal.proofs.read.journal_of.Needs as need

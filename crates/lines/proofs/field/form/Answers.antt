@@ -1,0 +1,14 @@
+use Rattle.words.specs.Words.{left}
+use Rattle.lines.specs.Fields.{formOf}
+use Rattle.lines.specs.declared.expected.Expected.the-variants.{Source}
+use Rattle.lines.proofs.Fields.{field-none, field-some}
+use Rattle.lines.proofs.field.form.Needs as need
+
+pub returns-in-rest : need.returns-in-rest
+returns-in-rest c = record { cases = field-none formOf Source (left (c .args .words .now)) (c .in-rest .ensures tt .value) }
+
+pub returns : need.returns
+returns c =
+    record {
+      cases = field-some formOf Source (left (c .args .words .now)) (c .in-Some .word .now) _ (c .form-of .result) _ (c .in-Some .ensures tt .value) (c .next-word .ensures .after) (c .form-of .ensures .value) (c .ok-or .ensures .value);
+    }
