@@ -17,7 +17,7 @@ use Rattle.sheets.specs.Limits.{greatestWorth}
 use Rattle.sheets.specs.Refusals.{fault, when}
 use Rattle.reference.specs.Meaning.{Sheets}
 use Rattle.reports.specs.declared.report.Side.{Side}
-use Rattle.calculation.specs.Steps.{Steps, gives, tooLarge, readsSecurity, readsCurrency, _>>=_, found, resultOf}
+use Rattle.calculation.specs.Steps.{Steps, gives, tooLarge, readsSecurity, _>>=_, resultOf}
 use Rattle.reports.specs.Terms.{Terms}
 use Rattle.calculation.specs.Penalties.{sheetIf, needsPenaltySheet, needsPriceSheet, partsOf, worthRefusal, dayOfSecurity}
 use Rattle.calculation.proofs.Binding.{bind-ok}

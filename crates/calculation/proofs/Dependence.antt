@@ -5,11 +5,11 @@ use mathlib.Core.List.{List, [], _∷_}
 use Rattle.std.specs.declared.option.Option.{Option}
 use Rattle.std.specs.declared.option.Option.the-variants.{Some, None}
 use Rattle.std.specs.declared.result.Result.{Result}
-use Rattle.std.specs.declared.result.Result.the-variants.{Ok, Err}
+use Rattle.std.specs.declared.result.Result.the-variants.{Err}
 use Rattle.sheets.specs.declared.fault.Fault.{Fault}
 use Rattle.reference.specs.Meaning.{Sheets}
-use Rattle.calculation.specs.Steps.{Steps, gives, tooLarge, readsSecurity, readsCurrency, found, resultOf, Read, ofSecurity, ofCurrency, readsOf}
-use Rattle.calculation.specs.Charging.{unless, chargesOf, chargesReads, stepsOf}
+use Rattle.calculation.specs.Steps.{Steps, gives, tooLarge, readsSecurity, readsCurrency, found, resultOf, ofSecurity, ofCurrency, readsOf}
+use Rattle.calculation.specs.Charging.{unless, chargesOf, stepsOf}
 use Rattle.reports.specs.Reports.{reportRefusal}
 use Rattle.reports.specs.declared.report.Report.{Report}
 use Rattle.calculation.specs.declared.charge.Charges.{Charges}

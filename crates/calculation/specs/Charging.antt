@@ -1,11 +1,11 @@
 -- What a report is charged, to whom and for whom. Assumes nothing.
 use mathlib.Core.Bool.{Bool}
-use mathlib.Core.List.{List, [], _∷_}
+use mathlib.Core.List.{List, []}
 use Prim.Native.Nat.{ℕ}
 use Rattle.std.specs.declared.option.Option.{Option}
 use Rattle.std.specs.declared.option.Option.the-variants.{Some, None}
 use Rattle.std.specs.declared.result.Result.{Result}
-use Rattle.std.specs.declared.result.Result.the-variants.{Ok, Err}
+use Rattle.std.specs.declared.result.Result.the-variants.{Err}
 use Rattle.sheets.specs.declared.fault.Fault.{Fault}
 use Rattle.reference.specs.Meaning.{Sheets}
 use Rattle.reports.specs.declared.report.Report.{Report}

@@ -1,8 +1,7 @@
 -- One penalty's penalty.
-use mathlib.Core.Path.{_≡_}
 use mathlib.Core.Bool.{Bool, true, false, cond, not, _&&_, _||_}
 use mathlib.Core.List.{List, [], _∷_}
-use Prim.Native.Nat.{ℕ, _+_, _*_, _-_, _/_, suc, zero}
+use Prim.Native.Nat.{ℕ, _+_, _*_, _-_, _/_}
 use lib.Dec.{eqb, ltb}
 use lib.ListN.{getD}
 use Rattle.std.specs.declared.option.Option.{Option}
@@ -21,7 +20,7 @@ use Rattle.sheets.specs.declared.fault.Rule.the-variants.{ValueTooLarge}
 use Rattle.sheets.specs.declared.fault.Layer.the-variants.{Calculation}
 use Rattle.sheets.specs.Classes.{classRate}
 use Rattle.sheets.specs.Refusals.{fault, when}
-use Rattle.sheets.specs.Limits.{greatestWorth, firstParty}
+use Rattle.sheets.specs.Limits.{greatestWorth}
 use Rattle.calculation.specs.declared.charge.Figure.{Figure}
 use Rattle.reports.specs.Days.{lastOr}
 use Rattle.calculation.specs.Rounding.{part}

@@ -1,5 +1,4 @@
 -- What a penalty reads, in order, and what it gives: an answer or a fault.
-use mathlib.Core.Path.{_≡_}
 use mathlib.Core.List.{List, [], _∷_}
 use Prim.Native.Nat.{ℕ}
 use Rattle.std.specs.declared.option.Option.{Option}

@@ -1,6 +1,6 @@
 // What one used day reads and comes to.
 ghost use mathlib.Core.Path.{_≡_};
-ghost use Prim.Native.Nat.{ℕ, _+_, _*_, _^_, _<_, _≤_};
+ghost use Prim.Native.Nat.{_*_, _^_, _<_, _≤_};
 ghost use Rattle.std.specs.Vec.{made};
 ghost use Rattle.sheets.specs.Limits.{greatestWorth};
 ghost use Rattle.sheets.specs.Refusals.{Answers};

@@ -1,6 +1,6 @@
 // The parts of one day.
 ghost use mathlib.Core.Path.{_≡_};
-ghost use Prim.Native.Nat.{ℕ, _+_, _*_, _^_, _<_, _≤_};
+ghost use Prim.Native.Nat.{_+_, _*_, _^_, _<_, _≤_};
 ghost use Rattle.sheets.specs.Limits.{greatestRate, greatestWorth};
 ghost use Rattle.reports.specs.Terms.{termsOf};
 ghost use Rattle.calculation.specs.Penalties.{byCashRate, hasSecurityPart, hasCashPart, needsPenaltySheet, needsPriceSheet, euroValue, rateOf, cashPart, securityRate, priceValue, penaltyValue, securityPart, partsOf};

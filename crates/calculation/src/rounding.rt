@@ -1,6 +1,6 @@
 // A part of a penalty, rounded to the nearest twice.
 ghost use mathlib.Core.Path.{_≡_};
-ghost use Prim.Native.Nat.{ℕ, _+_, _*_, _/_, _^_, _<_, _≤_};
+ghost use Prim.Native.Nat.{_+_, _*_, _/_, _^_, _≤_};
 ghost use Rattle.sheets.specs.Limits.{greatestWorth, greatestRate};
 ghost use Rattle.calculation.specs.Rounding.{whole, part};
 use crate::conversion::Conversion;

@@ -8,7 +8,7 @@ use Rattle.std.proofs.shelf.Tests.{cases-bool, and-parts, eqb-true}
 use Rattle.std.specs.declared.option.Option.{Option}
 use Rattle.std.specs.declared.option.Option.the-variants.{Some, None}
 use Rattle.sheets.specs.declared.sheet.CurrencySheet.{CurrencySheet}
-use Rattle.reference.specs.Meaning.{Table, Each, Own}
+use Rattle.reference.specs.Meaning.{Each, Own}
 use Rattle.plain_rows.specs.declared.rows.Row.{Row}
 use Rattle.plain_rows.specs.Rows.{rowsTable, found, sits, holds, ownNumber}
 use Prim.Native.Nat.{ℕ}

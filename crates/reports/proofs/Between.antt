@@ -1,8 +1,8 @@
 -- The business days from a day on, one day at a time.
-use mathlib.Core.Path.{_≡_, refl, sym, ap, _∙_}
+use mathlib.Core.Path.{_≡_, sym, ap, _∙_}
 use mathlib.Core.Bool.{Bool, true, false, cond}
 use mathlib.Core.List.{List, [], _∷_}
-use Prim.Native.Nat.{ℕ, _+_, _-_, suc, zero, _<_, _≤_}
+use Prim.Native.Nat.{ℕ, _+_, _-_, suc, _<_, _≤_}
 use native.Mathlib.Omega.{arith}
 use Rattle.std.proofs.shelf.Tests.{cond-true, cond-false, cases-bool}
 use mathlib.Core.Logic.{⊎-elim}

@@ -1,16 +1,15 @@
 -- A report that passes every test.
-use mathlib.Core.Path.{_≡_, refl, sym, ap, _∙_}
+use mathlib.Core.Path.{_≡_, sym, ap, _∙_}
 use mathlib.Core.Bool.{Bool, true, false, cond, not, _&&_}
 use mathlib.Core.List.{List, [], _∷_}
-use Prim.Native.Nat.{ℕ, _+_, _-_, _<_, _≤_}
+use Prim.Native.Nat.{ℕ, _+_, _-_, _≤_}
 use native.Mathlib.Omega.{arith}
 use lib.Dec.{leb, eqb}
 use Rattle.std.proofs.shelf.Tests.{not-true, and-parts, leb-true}
 use Rattle.reports.specs.declared.report.Report.{Report}
-use Rattle.std.specs.declared.option.Option.{Option}
-use Rattle.std.specs.declared.option.Option.the-variants.{Some, None}
+use Rattle.std.specs.declared.option.Option.the-variants.{None}
 use Rattle.sheets.specs.declared.fault.Layer.the-variants.{Book}
-use Rattle.sheets.specs.Refusals.{dayRefusal, securityRefusal, orNext}
+use Rattle.sheets.specs.Refusals.{dayRefusal}
 use Rattle.reports.specs.declared.report.Cause.the-variants.{Fail, Late}
 use Rattle.reports.specs.Days.{isBusiness, daysBetween, isEmpty}
 use Rattle.reports.specs.Reports.{isParty, partiesFit, fieldsFit, reasonsFit, usedDays, causeRefusal}

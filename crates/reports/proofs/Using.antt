@@ -1,18 +1,18 @@
 -- The days of the definition are the used days.
-use mathlib.Core.Path.{_≡_, refl, sym, ap, subst, _∙_}
+use mathlib.Core.Path.{_≡_, refl, sym, ap, _∙_}
 use mathlib.Core.Bool.{Bool, true, false, cond, _&&_, _||_}
 use mathlib.Core.Logic.{⊎-elim}
-use mathlib.Core.List.{List, [], _∷_}
-use Prim.Native.Nat.{ℕ, zero, suc, _+_, _-_, _<_, _≤_}
+use mathlib.Core.List.{List}
+use Prim.Native.Nat.{ℕ, zero, suc, _+_, _-_, _<_}
 use native.Mathlib.Omega.{arith}
 use lib.Dec.{eqb, ltb, leb}
-use Rattle.std.proofs.shelf.Tests.{cases-bool, cases-eq, cases-lt, cond-true, cond-false}
+use Rattle.std.proofs.shelf.Tests.{cases-bool, cases-eq, cond-true, cond-false}
 use Rattle.std.proofs.shelf.Ways.{tells}
 use Rattle.reports.specs.declared.report.Cause.{Cause}
 use Rattle.reports.specs.declared.report.Cause.the-variants.{Fail, Late}
-use Rattle.reports.specs.Days.{isBusiness, businessDays, daysBetween}
+use Rattle.reports.specs.Days.{isBusiness, businessDays}
 use Rattle.reports.specs.Reports.{usedDays}
-use Rattle.reports.specs.UsedDays.{isUsed, isIn, AllAfter, Rising, UsedDays}
+use Rattle.reports.specs.UsedDays.{isIn, AllAfter, Rising, UsedDays}
 
 module _ (marks : List Bool) where
   abbrev among : ℕ → ℕ → ℕ → Bool

@@ -1,7 +1,7 @@
 // The used days of a trade.
 ghost use mathlib.Core.Path.{_≡_};
 ghost use mathlib.Core.Bool.{cond, not};
-ghost use Prim.Native.Nat.{ℕ, _+_, _-_, _<_, _≤_};
+ghost use Prim.Native.Nat.{_-_, _<_, _≤_};
 ghost use Rattle.reports.specs.Days.{isBusiness, daysBetween, lastOr, isEmpty};
 use crate::calendar::Calendar;
 use crate::report::Span;

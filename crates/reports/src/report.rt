@@ -1,5 +1,5 @@
 // A report as raw numbers, and the trade that it is once it has been checked.
-ghost use Prim.Native.Nat.{ℕ, _≤_};
+ghost use Prim.Native.Nat.{_≤_};
 ghost use Rattle.sheets.specs.Limits.{firstParty, lastParty, greatestQuantity, greatestCash};
 
 // Why a penalty is due: the trade failed to settle on a day, or its two sides matched late.

@@ -1,5 +1,5 @@
 -- Why the making of a unit or a sheet is refused: the first rule that is broken. Assumes nothing.
-use mathlib.Core.Bool.{Bool, true, false, cond, _||_, not}
+use mathlib.Core.Bool.{Bool, cond, _||_, not}
 use mathlib.Core.Path.{_≡_}
 use Prim.Native.Nat.{ℕ}
 use lib.Dec.{ltb, eqb}

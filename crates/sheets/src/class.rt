@@ -1,6 +1,6 @@
 // The class of a security, by which its daily penalty rate is set.
 ghost use mathlib.Core.Path.{_≡_};
-ghost use Prim.Native.Nat.{ℕ, _≤_};
+ghost use Prim.Native.Nat.{_≤_};
 ghost use Rattle.sheets.specs.Classes.{classNumber, classOf, classRate};
 ghost use Rattle.sheets.specs.Limits.{greatestRate};
 

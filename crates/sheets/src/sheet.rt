@@ -1,6 +1,5 @@
 // What a source knows of a security and of a currency on a day.
-ghost use mathlib.Core.Path.{_≡_};
-ghost use Prim.Native.Nat.{ℕ, _≤_};
+ghost use Prim.Native.Nat.{_≤_};
 ghost use Rattle.sheets.specs.Limits.{greatestPrice, lastCurrency, greatestRate, leastValue, greatestValue};
 use crate::class::Class;
 

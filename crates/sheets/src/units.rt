@@ -1,5 +1,5 @@
 // The units by which a sheet is found: a day of the book's year, a security, a currency.
-ghost use Prim.Native.Nat.{ℕ, _≤_};
+ghost use Prim.Native.Nat.{_≤_};
 ghost use Rattle.sheets.specs.Limits.{lastDay, lastSecurity, lastCurrency};
 
 #[derive(Clone, Copy)]

@@ -1,7 +1,5 @@
 use Rattle.reference.specs.Meaning.{answers}
 use mathlib.Core.Path.{refl}
-use mathlib.Core.List.{List}
-use Prim.Native.Nat.{ℕ}
 use Rattle.std.proofs.shelf.Results.{err-from-errBy}
 use Rattle.calculation.specs.declared.charge.Charge.{Charge}
 use Rattle.calculation.specs.declared.charge.Charges.{Charges}

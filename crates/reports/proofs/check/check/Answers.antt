@@ -1,7 +1,5 @@
-use mathlib.Core.Path.{_≡_, sym, subst}
+use mathlib.Core.Path.{sym, subst}
 use borrow.Author.Needs.{needs}
-use Rattle.sheets.specs.Refusals.{Answers}
-use Rattle.reports.specs.Reports.{reportRefusal, TradeOf}
 use Rattle.reports.specs.UsedDays.{UsedDays}
 use Rattle.reports.proofs.Fits.{fields-bounds, parties-bounds}
 use Rattle.reports.proofs.Using.{used-days}

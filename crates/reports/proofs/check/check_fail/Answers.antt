@@ -1,5 +1,5 @@
 use mathlib.Core.Path.{_≡_, sym, ap, _∙_}
-use mathlib.Core.Bool.{true, false}
+use mathlib.Core.Bool.{true}
 use Rattle.reports.specs.Days.{isBusiness}
 use Rattle.reports.proofs.Fits.{one-day, fail-fits}
 use Rattle.reports.proofs.check.check_fail.Needs as need

@@ -1,5 +1,5 @@
 use mathlib.Core.Path.{_≡_}
-use Rattle.reports.specs.Days.{daysBetween, isEmpty}
+use Rattle.reports.specs.Days.{daysBetween}
 use Rattle.reports.proofs.days.has_day.Given as given
 
 abbrev pub Inv-loop-d : given.InvT-loop-d
