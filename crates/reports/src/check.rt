@@ -8,6 +8,7 @@ ghost use Rattle.sheets.specs.Refusals.{Answers, fault, securityRefusal};
 ghost use Rattle.std.specs.Vec.{made as taken};
 ghost use Rattle.reports.specs.Days.{daysBetween};
 ghost use Rattle.reports.specs.UsedDays.{UsedDays};
+ghost use Rattle.reports.specs.WhoFails.{WhoFails};
 ghost use Rattle.reports.specs.Reports.{isParty, partiesFit, kindOf, securitiesFit, cashFits, fieldsFit, isReason, isOdd, isMet, reasonsFit, failingOf, causeRefusal, reportRefusal, SpanOf, TradeOf};
 use crate::calendar::Calendar;
 use crate::days::has_day;
@@ -240,6 +241,7 @@ fn check_security(kind: u8, security: u16) -> Result<(), Fault>
 // The trade of a report, or the first rule that the report breaks.
 pub fn check(calendar: &Calendar, report: Report) -> Result<Trade, Fault>
     ensures made { λ r. ⌜ Answers (reportRefusal (now (calendar .entry) .business) report) r (TradeOf (now (calendar .entry) .business) report) ⌝ }
+    ensures sides { λ r. ⌜ taken r (λ t. WhoFails (report .cause) (t .span .failing)) ⌝ }
     ensures used { λ r. ⌜ taken r (λ t. UsedDays (now (calendar .entry) .business) (report .cause) (daysBetween (now (calendar .entry) .business) (t .span .from) (t .span .end))) ⌝ }
 {
     if !parties_fit(report) {
