@@ -1,10 +1,13 @@
 // Lines of one word or more, each of one kind: days of business, and depositories.
 ghost use mathlib.Core.Path.{_≡_};
-ghost use lib.Dec.{T};
+ghost use mathlib.Core.List.{List};
+ghost use Prim.Native.Nat.{ℕ};
+ghost use lib.Dec.{T as Holds};
 ghost use lib.ListN.{length};
+ghost use Rattle.std.specs.declared.option.Option.{Option};
 ghost use Rattle.std.specs.declared.option.Option.the-variants.{Some};
 ghost use Rattle.words.specs.Words.{left};
-ghost use Rattle.lines.specs.Lists.{isRange, rangeOf, spanOf, depositoryOf, spans as theSpans, depositories as theDepositories};
+ghost use Rattle.lines.specs.Lists.{isRange, rangeOf, spanOf, depositoryOf, listed, spans as theSpans, depositories as theDepositories};
 ghost use Rattle.lines.specs.Unread.{Lists};
 use crate::expected::Expected;
 use crate::said::Span;
@@ -27,7 +30,7 @@ fn range(first: u16, last: u16) -> Option<Span>
 // Whether two points stand between two words as long as days.
 fn is_range(word: &[u8]) -> bool
     ensures value { λ r. ⌜ r ≡ isRange (now (word .entry)) ⌝ }
-    ensures long { λ r. ⌜ (T r → length (now (word .entry)) ≡ 12) ⌝ }
+    ensures long { λ r. ⌜ (Holds r → length (now (word .entry)) ≡ 12) ⌝ }
 {
     word.len() == 12 && is(&word[5..7], b"..")
 }
@@ -56,38 +59,58 @@ fn depository_of(word: &[u8]) -> Option<u8>
     Some((number - 10) as u8)
 }
 
-pub(crate) fn spans(heap: Global, words: &mut Words<'_>) -> Result<Vec<Span>, Unread>
-    ensures cases { λ r. ⌜ Lists r (theSpans (left (now (words .entry)))) ⌝ }
+// What one word of a list writes.
+trait Item: Copy {
+    ghost written: { List ℕ → Option Self };
+
+    fn of_word(word: &[u8]) -> Option<Self>
+        ensures value { λ r. ⌜ r ≡ written (now (word .entry)) ⌝ };
+}
+
+impl Item for Span as SpanItem {
+    ghost written = { spanOf };
+
+    fn of_word(word: &[u8]) -> Option<Span> {
+        span_of(word)
+    }
+}
+
+// A depository, by its place.
+impl Item for u8 as DepositoryItem {
+    ghost written = { depositoryOf };
+
+    fn of_word(word: &[u8]) -> Option<u8> {
+        depository_of(word)
+    }
+}
+
+// One word or more, each an item.
+fn items<T: Item>(heap: Global, words: &mut Words<'_>, expected: Expected) -> Result<Vec<T>, Unread>
+    ensures cases { λ r. ⌜ Lists r (listed written expected (left (now (words .entry)))) ⌝ }
 {
     let mut all = Vec::new(heap);
     while let Some(word) = words.next_word() {
-        let Some(span) = span_of(word) else {
-            return Err(Unread::Malformed(Expected::Span));
+        let Some(item) = T::of_word(word) else {
+            return Err(Unread::Malformed(expected));
         };
-        if all.push(span).is_err() {
+        if all.push(item).is_err() {
             return Err(Unread::Memory);
         }
     }
     if all.is_empty() {
-        return Err(Unread::Malformed(Expected::Span));
+        return Err(Unread::Malformed(expected));
     }
     Ok(all)
+}
+
+pub(crate) fn spans(heap: Global, words: &mut Words<'_>) -> Result<Vec<Span>, Unread>
+    ensures cases { λ r. ⌜ Lists r (theSpans (left (now (words .entry)))) ⌝ }
+{
+    items(heap, words, Expected::Span)
 }
 
 pub(crate) fn depositories(heap: Global, words: &mut Words<'_>) -> Result<Vec<u8>, Unread>
     ensures cases { λ r. ⌜ Lists r (theDepositories (left (now (words .entry)))) ⌝ }
 {
-    let mut all = Vec::new(heap);
-    while let Some(word) = words.next_word() {
-        let Some(depository) = depository_of(word) else {
-            return Err(Unread::Malformed(Expected::Depository));
-        };
-        if all.push(depository).is_err() {
-            return Err(Unread::Memory);
-        }
-    }
-    if all.is_empty() {
-        return Err(Unread::Malformed(Expected::Depository));
-    }
-    Ok(all)
+    items(heap, words, Expected::Depository)
 }
