@@ -20,10 +20,9 @@ use reports::report::Trade;
 use sheets::fault::Fault;
 use sheets::fault::Layer;
 use sheets::fault::Rule;
+use sheets::limits::GREATEST_WORTH;
 use sheets::sheet::CurrencySheet;
 use sheets::sheet::SecuritySheet;
-
-const GREATEST_WORTH: u64 = 10_000_000_000_000;
 
 pub(crate) fn sheet_of<S: Source>(
     source: &S,

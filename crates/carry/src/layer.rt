@@ -10,13 +10,12 @@ ghost use Rattle.carry.specs.Carried.{latest, silent, spread, greatestReach};
 ghost use Rattle.carry.specs.Layer.{carryMeaning, EnteredBelow};
 use reference::source::Source;
 use sheets::fault::Fault;
+use sheets::limits::LAST_DAY;
 use sheets::sheet::CurrencySheet;
 use sheets::sheet::SecuritySheet;
 use sheets::units::Currency;
 use sheets::units::Day;
 use sheets::units::Security;
-
-const LAST_DAY: u16 = 371;
 
 const GREATEST_REACH: u8 = 10;
 

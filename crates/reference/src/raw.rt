@@ -4,13 +4,12 @@ ghost use Rattle.reference.specs.Meaning.{answers, SecurityEntered, CurrencyEn
 use crate::source::Source;
 use sheets::fault::Fault;
 use sheets::fault::Layer;
+use sheets::limits::LAST_CURRENCY;
 use sheets::make;
 use sheets::sheet::CurrencySheet;
 use sheets::sheet::SecuritySheet;
 use sheets::units::Currency;
 use sheets::units::Day;
-
-const LAST_CURRENCY: u8 = 15;
 
 pub fn security<S: Source>(source: &S, security: u16, day: u16) -> Option<SecuritySheet>
     ensures value { λ r. ⌜ r ≡ answers (meaning (now (source .entry))) .securities security day ⌝ }

@@ -21,6 +21,11 @@ use crate::report::Trade;
 use sheets::fault::Fault;
 use sheets::fault::Layer;
 use sheets::fault::Rule;
+use sheets::limits::FIRST_PARTY;
+use sheets::limits::GREATEST_CASH;
+use sheets::limits::GREATEST_QUANTITY;
+use sheets::limits::LAST_PARTY;
+use sheets::limits::LAST_SETTLEMENT_CURRENCY;
 use sheets::make;
 
 fn refused(rule: Rule, first: u64, second: u64) -> Fault
@@ -36,7 +41,7 @@ fn refused(rule: Rule, first: u64, second: u64) -> Fault
 fn is_party(party: u16) -> bool
     ensures value { λ r. ⌜ r ≡ isParty party ⌝ }
 {
-    1000 <= party && party <= 9999
+    FIRST_PARTY <= party && party <= LAST_PARTY
 }
 
 fn parties_fit(report: Report) -> bool
@@ -61,7 +66,7 @@ fn cash_fits(report: Report) -> bool
     if report.kind == 2 {
         report.cash == 0 && report.currency == 0
     } else {
-        1 <= report.cash && report.currency <= 1
+        1 <= report.cash && report.currency <= LAST_SETTLEMENT_CURRENCY
     }
 }
 
@@ -70,8 +75,8 @@ fn fields_fit(report: Report) -> bool
 {
     1 <= report.kind
         && report.kind <= 4
-        && report.quantity <= 1_000_000_000
-        && report.cash <= 100_000_000_000
+        && report.quantity <= GREATEST_QUANTITY
+        && report.cash <= GREATEST_CASH
         && securities_fit(report)
         && cash_fits(report)
 }

@@ -7,20 +7,15 @@ use crate::class::Class;
 use crate::fault::Fault;
 use crate::fault::Layer;
 use crate::fault::Rule;
+use crate::limits::GREATEST_PRICE;
+use crate::limits::GREATEST_RATE;
+use crate::limits::LAST_CURRENCY;
+use crate::limits::LAST_DAY;
+use crate::limits::LAST_SECURITY;
 use crate::sheet::CurrencySheet;
 use crate::sheet::SecuritySheet;
 use crate::units::Day;
 use crate::units::Security;
-
-const LAST_DAY: u16 = 371;
-
-const LAST_SECURITY: u16 = 9_999;
-
-const LAST_CURRENCY: u8 = 15;
-
-const GREATEST_PRICE: u64 = 1_000_000_000;
-
-const GREATEST_RATE: u64 = 100_000;
 
 // A day of the year, as the layer that asks for it.
 pub fn day(layer: Layer, number: u16) -> Result<Day, Fault>

@@ -19,13 +19,12 @@ use plain_rows::rows::is_filed;
 use plain_rows::rows::row_sheet;
 use reference::source::Source;
 use sheets::fault::Fault;
+use sheets::limits::LAST_DAY;
 use sheets::sheet::CurrencySheet;
 use sheets::sheet::SecuritySheet;
 use sheets::units::Currency;
 use sheets::units::Day;
 use sheets::units::Security;
-
-const LAST_DAY: u16 = 371;
 
 #[derive(Drop)]
 pub struct Steps {
