@@ -52,330 +52,306 @@ mod tests {
         }
     }
 
+    // A line that cannot be read, and what was expected on it.
+    struct Unreadable {
+        line: &'static str,
+        expected: &'static str,
+    }
+
+    const UNREADABLE: [Unreadable; 69] = [
+        Unreadable {
+            line: "sheets security 17 day 02-10",
+            expected: "business, opted, source, security, currency, sheet or quote",
+        },
+        Unreadable {
+            line: "Business 01-01",
+            expected: "business, opted, source, security, currency, sheet or quote",
+        },
+        Unreadable {
+            line: "\tsource steps 1",
+            expected: "the end of the line",
+        },
+        Unreadable {
+            line: "currency DKK day 02-10 rate 0.00006000 value 0.134000 x",
+            expected: "the end of the line",
+        },
+        Unreadable {
+            line: "security",
+            expected: "a security's number up to 65535",
+        },
+        Unreadable {
+            line: "security 17",
+            expected: "the word day",
+        },
+        Unreadable {
+            line: "security 17 day 2-10",
+            expected: "a day MM-DD",
+        },
+        Unreadable {
+            line: "security 17 day 02-10 25.0000",
+            expected: "the word price",
+        },
+        Unreadable {
+            line: "security 17 day 02-10 price 25.00",
+            expected: "a price with four decimals",
+        },
+        Unreadable {
+            line: "security 17 day 02-10 price 25.0000",
+            expected: "the word currency",
+        },
+        Unreadable {
+            line: "security 17 day 02-10 price 25.0000 currency GBP",
+            expected: "EUR, DKK or a currency's number up to 255",
+        },
+        Unreadable {
+            line: "security 17 day 02-10 price 25.0000 currency EUR",
+            expected: "the word class",
+        },
+        Unreadable {
+            line: "security 17 day 02-10 price 25.0000 currency EUR class 256",
+            expected: "a class up to 255",
+        },
+        Unreadable {
+            line: "currency SEK",
+            expected: "EUR, DKK or a currency's number up to 255",
+        },
+        Unreadable {
+            line: "currency DKK",
+            expected: "the word day",
+        },
+        Unreadable {
+            line: "currency DKK day 02-10 rat",
+            expected: "the word rate",
+        },
+        Unreadable {
+            line: "currency DKK day 02-10 rate 0.0001",
+            expected: "a rate with eight decimals",
+        },
+        Unreadable {
+            line: "currency DKK day 02-10 rate 0.00006000",
+            expected: "the word value",
+        },
+        Unreadable {
+            line: "currency DKK day 02-10 rate 0.00006000 value 1",
+            expected: "a euro value with six decimals",
+        },
+        Unreadable {
+            line: "sheet",
+            expected: "security or currency",
+        },
+        Unreadable {
+            line: "sheet security x",
+            expected: "a security's number up to 65535",
+        },
+        Unreadable {
+            line: "sheet currency 256 day 02-10",
+            expected: "EUR, DKK or a currency's number up to 255",
+        },
+        Unreadable {
+            line: "quote",
+            expected: "fail or late",
+        },
+        Unreadable {
+            line: "quote fail",
+            expected: "an instruction's number up to 4294967295",
+        },
+        Unreadable {
+            line: "quote fail 1",
+            expected: "the word type",
+        },
+        Unreadable {
+            line: "quote fail 1 type 256",
+            expected: "a type up to 255",
+        },
+        Unreadable {
+            line: "quote fail 1 type 1 to",
+            expected: "the word from",
+        },
+        Unreadable {
+            line: "quote fail 1 type 1 from 65536",
+            expected: "a party's number up to 65535",
+        },
+        Unreadable {
+            line: "quote fail 1 type 1 from 1001 from",
+            expected: "the word to",
+        },
+        Unreadable {
+            line: "quote fail 1 type 1 from 1001 to x",
+            expected: "a party's number up to 65535",
+        },
+        Unreadable {
+            line: "quote fail 1 type 1 from 1001 to 2002 17",
+            expected: "the word security",
+        },
+        Unreadable {
+            line: "quote fail 1 type 1 from 1001 to 2002 security 17",
+            expected: "the word quantity",
+        },
+        Unreadable {
+            line: "quote fail 1 type 1 from 1001 to 2002 security 17 quantity -1",
+            expected: "a quantity up to 18446744073709551615",
+        },
+        Unreadable {
+            line: "quote late 1 type 1 from 1001 to 2002 security 17 quantity 1",
+            expected: "the word cash",
+        },
+        Unreadable {
+            line: "quote late 1 type 1 from 1001 to 2002 security 17 quantity 1 cash 5",
+            expected: "cash with two decimals",
+        },
+        Unreadable {
+            line: "quote fail 900001 type 1 from 1001 to 2002 security 17 quantity 1000 cash 25000.00 currency EUR reasons",
+            expected: "the word day",
+        },
+        Unreadable {
+            line: "quote fail 900001 type 1 from 1001 to 2002 security 17 quantity 1000 cash 25000.00 currency EUR day 02-10",
+            expected: "the word reasons",
+        },
+        Unreadable {
+            line: "quote fail 900001 type 1 from 1001 to 2002 security 17 quantity 1000 cash 25000.00 currency EUR day 02-10 reasons 256",
+            expected: "a reason up to 255",
+        },
+        Unreadable {
+            line: "quote fail 900001 type 1 from 1001 to 2002 security 17 quantity 1000 cash 25000.00 currency EUR day 02-10 reasons 1",
+            expected: "a reason up to 255",
+        },
+        Unreadable {
+            line: "quote fail 900001 type 1 from 1001 to 2002 security 17 quantity 1000 cash 25000.00 currency EUR day 02-10 reasons 1 2 3",
+            expected: "the end of the line",
+        },
+        Unreadable {
+            line: "quote late 900001 type 1 from 1001 to 2002 security 17 quantity 1000 cash 25000.00 currency EUR day",
+            expected: "the word intended",
+        },
+        Unreadable {
+            line: "quote late 900001 type 1 from 1001 to 2002 security 17 quantity 1000 cash 25000.00 currency EUR intended 02-10",
+            expected: "the word matched",
+        },
+        Unreadable {
+            line: "quote late 900001 type 1 from 1001 to 2002 security 17 quantity 1000 cash 25000.00 currency EUR intended 02-10 matched 02-13 then",
+            expected: "before or after",
+        },
+        Unreadable {
+            line: "quote late 900001 type 1 from 1001 to 2002 security 17 quantity 1000 cash 25000.00 currency EUR intended 02-10 matched 02-13 after",
+            expected: "the word times",
+        },
+        Unreadable {
+            line: "quote late 900001 type 1 from 1001 to 2002 security 17 quantity 1000 cash 25000.00 currency EUR intended 02-10 matched 02-13 after times 4294967296",
+            expected: "a time up to 4294967295",
+        },
+        Unreadable {
+            line: "quote late 900001 type 1 from 1001 to 2002 security 17 quantity 1000 cash 25000.00 currency EUR intended 02-10 matched 02-13 after times 1",
+            expected: "a time up to 4294967295",
+        },
+        Unreadable {
+            line: "business",
+            expected: "a day MM-DD or a range MM-DD..MM-DD",
+        },
+        Unreadable {
+            line: "business 01-02 02-01..01-31",
+            expected: "a day MM-DD or a range MM-DD..MM-DD",
+        },
+        Unreadable {
+            line: "business 01-01...12-31",
+            expected: "a day MM-DD or a range MM-DD..MM-DD",
+        },
+        Unreadable {
+            line: "opted",
+            expected: "a depository from 10 to 99",
+        },
+        Unreadable {
+            line: "opted 10 9",
+            expected: "a depository from 10 to 99",
+        },
+        Unreadable {
+            line: "opted 100",
+            expected: "a depository from 10 to 99",
+        },
+        Unreadable {
+            line: "source",
+            expected: "plain, steps or carry",
+        },
+        Unreadable {
+            line: "source plain 1000001",
+            expected: "a number of rows up to 1000000",
+        },
+        Unreadable {
+            line: "source plain 400",
+            expected: "a number of rows up to 1000000",
+        },
+        Unreadable {
+            line: "source carry 256",
+            expected: "a number of days up to 255",
+        },
+        Unreadable {
+            line: "source carry 3 carry",
+            expected: "plain or steps",
+        },
+        Unreadable {
+            line: "sheet security 65536 day 02-10",
+            expected: "a security's number up to 65535",
+        },
+        Unreadable {
+            line: "sheet security +17 day 02-10",
+            expected: "a security's number up to 65535",
+        },
+        Unreadable {
+            line: "sheet security 17 day 01-32",
+            expected: "a day MM-DD",
+        },
+        Unreadable {
+            line: "sheet security 17 day 00-01",
+            expected: "a day MM-DD",
+        },
+        Unreadable {
+            line: "sheet security 17 day 01-00",
+            expected: "a day MM-DD",
+        },
+        Unreadable {
+            line: "security 17 day 02-10 price .0000",
+            expected: "a price with four decimals",
+        },
+        Unreadable {
+            line: "security 17 day 02-10 price 25.00000",
+            expected: "a price with four decimals",
+        },
+        Unreadable {
+            line: "security 17 day 02-10 price 1844674407370955.1616",
+            expected: "a price with four decimals",
+        },
+        Unreadable {
+            line: "quote fail 4294967296",
+            expected: "an instruction's number up to 4294967295",
+        },
+        Unreadable {
+            line: "quote fail 1 type 1 from 1 to 2 security 3 quantity 18446744073709551616",
+            expected: "a quantity up to 18446744073709551615",
+        },
+        Unreadable {
+            line: "security 17 day 02-10 price 25.0000 currency 256",
+            expected: "EUR, DKK or a currency's number up to 255",
+        },
+        Unreadable {
+            line: "security 17 day 02-10 # price",
+            expected: "the word price",
+        },
+    ];
+
     #[test]
-    fn first_word_and_end(rt: LibcRuntime) -> Result<(), Fail> {
+    fn unreadable_lines(rt: LibcRuntime) -> Result<(), Fail> {
         let heap = rt.alloc();
-        refused(
-            heap,
-            b"sheets security 17 day 02-10",
-            "line 1: expected business, opted, source, security, currency, sheet or quote: sheets security 17 day 02-10",
-        )?;
-        refused(
-            heap,
-            b"Business 01-01",
-            "line 1: expected business, opted, source, security, currency, sheet or quote: Business 01-01",
-        )?;
-        refused(
-            heap,
-            b"\tsource steps 1",
-            "line 1: expected the end of the line: \tsource steps 1",
-        )?;
-        refused(
-            heap,
-            b"currency DKK day 02-10 rate 0.00006000 value 0.134000 x",
-            "line 1: expected the end of the line: currency DKK day 02-10 rate 0.00006000 value 0.134000 x",
-        )
+        for case in UNREADABLE.iter() {
+            let line = case.line;
+            let expected = case.expected;
+            let message = format!(heap, "line 1: expected {expected}: {line}")?;
+            refused(heap, line.as_bytes(), message.as_str())?;
+        }
+        Ok(())
     }
 
     #[test]
-    fn security_line(rt: LibcRuntime) -> Result<(), Fail> {
+    fn source_lines(rt: LibcRuntime) -> Result<(), Fail> {
         let heap = rt.alloc();
-        refused(
-            heap,
-            b"security",
-            "line 1: expected a security's number up to 65535: security",
-        )?;
-        refused(
-            heap,
-            b"security 17",
-            "line 1: expected the word day: security 17",
-        )?;
-        refused(
-            heap,
-            b"security 17 day 2-10",
-            "line 1: expected a day MM-DD: security 17 day 2-10",
-        )?;
-        refused(
-            heap,
-            b"security 17 day 02-10 25.0000",
-            "line 1: expected the word price: security 17 day 02-10 25.0000",
-        )?;
-        refused(
-            heap,
-            b"security 17 day 02-10 price 25.00",
-            "line 1: expected a price with four decimals: security 17 day 02-10 price 25.00",
-        )?;
-        refused(
-            heap,
-            b"security 17 day 02-10 price 25.0000",
-            "line 1: expected the word currency: security 17 day 02-10 price 25.0000",
-        )?;
-        refused(
-            heap,
-            b"security 17 day 02-10 price 25.0000 currency GBP",
-            "line 1: expected EUR, DKK or a currency's number up to 255: security 17 day 02-10 price 25.0000 currency GBP",
-        )
-    }
-
-    #[test]
-    fn class_and_currency_line(rt: LibcRuntime) -> Result<(), Fail> {
-        let heap = rt.alloc();
-        refused(
-            heap,
-            b"security 17 day 02-10 price 25.0000 currency EUR",
-            "line 1: expected the word class: security 17 day 02-10 price 25.0000 currency EUR",
-        )?;
-        refused(
-            heap,
-            b"security 17 day 02-10 price 25.0000 currency EUR class 256",
-            "line 1: expected a class up to 255: security 17 day 02-10 price 25.0000 currency EUR class 256",
-        )?;
-        refused(
-            heap,
-            b"currency SEK",
-            "line 1: expected EUR, DKK or a currency's number up to 255: currency SEK",
-        )?;
-        refused(
-            heap,
-            b"currency DKK",
-            "line 1: expected the word day: currency DKK",
-        )?;
-        refused(
-            heap,
-            b"currency DKK day 02-10 rat",
-            "line 1: expected the word rate: currency DKK day 02-10 rat",
-        )?;
-        refused(
-            heap,
-            b"currency DKK day 02-10 rate 0.0001",
-            "line 1: expected a rate with eight decimals: currency DKK day 02-10 rate 0.0001",
-        )?;
-        refused(
-            heap,
-            b"currency DKK day 02-10 rate 0.00006000",
-            "line 1: expected the word value: currency DKK day 02-10 rate 0.00006000",
-        )?;
-        refused(
-            heap,
-            b"currency DKK day 02-10 rate 0.00006000 value 1",
-            "line 1: expected a euro value with six decimals: currency DKK day 02-10 rate 0.00006000 value 1",
-        )
-    }
-
-    #[test]
-    fn sheet_and_quote_words(rt: LibcRuntime) -> Result<(), Fail> {
-        let heap = rt.alloc();
-        refused(
-            heap,
-            b"sheet",
-            "line 1: expected security or currency: sheet",
-        )?;
-        refused(
-            heap,
-            b"sheet security x",
-            "line 1: expected a security's number up to 65535: sheet security x",
-        )?;
-        refused(
-            heap,
-            b"sheet currency 256 day 02-10",
-            "line 1: expected EUR, DKK or a currency's number up to 255: sheet currency 256 day 02-10",
-        )?;
-        refused(heap, b"quote", "line 1: expected fail or late: quote")?;
-        refused(
-            heap,
-            b"quote fail",
-            "line 1: expected an instruction's number up to 4294967295: quote fail",
-        )?;
-        refused(
-            heap,
-            b"quote fail 1",
-            "line 1: expected the word type: quote fail 1",
-        )?;
-        refused(
-            heap,
-            b"quote fail 1 type 256",
-            "line 1: expected a type up to 255: quote fail 1 type 256",
-        )
-    }
-
-    #[test]
-    fn trade_words(rt: LibcRuntime) -> Result<(), Fail> {
-        let heap = rt.alloc();
-        refused(
-            heap,
-            b"quote fail 1 type 1 to",
-            "line 1: expected the word from: quote fail 1 type 1 to",
-        )?;
-        refused(
-            heap,
-            b"quote fail 1 type 1 from 65536",
-            "line 1: expected a party's number up to 65535: quote fail 1 type 1 from 65536",
-        )?;
-        refused(
-            heap,
-            b"quote fail 1 type 1 from 1001 from",
-            "line 1: expected the word to: quote fail 1 type 1 from 1001 from",
-        )?;
-        refused(
-            heap,
-            b"quote fail 1 type 1 from 1001 to x",
-            "line 1: expected a party's number up to 65535: quote fail 1 type 1 from 1001 to x",
-        )?;
-        refused(
-            heap,
-            b"quote fail 1 type 1 from 1001 to 2002 17",
-            "line 1: expected the word security: quote fail 1 type 1 from 1001 to 2002 17",
-        )?;
-        refused(
-            heap,
-            b"quote fail 1 type 1 from 1001 to 2002 security 17",
-            "line 1: expected the word quantity: quote fail 1 type 1 from 1001 to 2002 security 17",
-        )?;
-        refused(
-            heap,
-            b"quote fail 1 type 1 from 1001 to 2002 security 17 quantity -1",
-            "line 1: expected a quantity up to 18446744073709551615: quote fail 1 type 1 from 1001 to 2002 security 17 quantity -1",
-        )
-    }
-
-    #[test]
-    fn cash_and_fail(rt: LibcRuntime) -> Result<(), Fail> {
-        let heap = rt.alloc();
-        refused(
-            heap,
-            b"quote late 1 type 1 from 1001 to 2002 security 17 quantity 1",
-            "line 1: expected the word cash: quote late 1 type 1 from 1001 to 2002 security 17 quantity 1",
-        )?;
-        refused(
-            heap,
-            b"quote late 1 type 1 from 1001 to 2002 security 17 quantity 1 cash 5",
-            "line 1: expected cash with two decimals: quote late 1 type 1 from 1001 to 2002 security 17 quantity 1 cash 5",
-        )?;
-        refused(
-            heap,
-            b"quote fail 900001 type 1 from 1001 to 2002 security 17 quantity 1000 cash 25000.00 currency EUR reasons",
-            "line 1: expected the word day: quote fail 900001 type 1 from 1001 to 2002 security 17 quantity 1000 cash 25000.00 currency EUR reasons",
-        )?;
-        refused(
-            heap,
-            b"quote fail 900001 type 1 from 1001 to 2002 security 17 quantity 1000 cash 25000.00 currency EUR day 02-10",
-            "line 1: expected the word reasons: quote fail 900001 type 1 from 1001 to 2002 security 17 quantity 1000 cash 25000.00 currency EUR day 02-10",
-        )?;
-        refused(
-            heap,
-            b"quote fail 900001 type 1 from 1001 to 2002 security 17 quantity 1000 cash 25000.00 currency EUR day 02-10 reasons 256",
-            "line 1: expected a reason up to 255: quote fail 900001 type 1 from 1001 to 2002 security 17 quantity 1000 cash 25000.00 currency EUR day 02-10 reasons 256",
-        )?;
-        refused(
-            heap,
-            b"quote fail 900001 type 1 from 1001 to 2002 security 17 quantity 1000 cash 25000.00 currency EUR day 02-10 reasons 1",
-            "line 1: expected a reason up to 255: quote fail 900001 type 1 from 1001 to 2002 security 17 quantity 1000 cash 25000.00 currency EUR day 02-10 reasons 1",
-        )?;
-        refused(
-            heap,
-            b"quote fail 900001 type 1 from 1001 to 2002 security 17 quantity 1000 cash 25000.00 currency EUR day 02-10 reasons 1 2 3",
-            "line 1: expected the end of the line: quote fail 900001 type 1 from 1001 to 2002 security 17 quantity 1000 cash 25000.00 currency EUR day 02-10 reasons 1 2 3",
-        )
-    }
-
-    #[test]
-    fn late(rt: LibcRuntime) -> Result<(), Fail> {
-        let heap = rt.alloc();
-        refused(
-            heap,
-            b"quote late 900001 type 1 from 1001 to 2002 security 17 quantity 1000 cash 25000.00 currency EUR day",
-            "line 1: expected the word intended: quote late 900001 type 1 from 1001 to 2002 security 17 quantity 1000 cash 25000.00 currency EUR day",
-        )?;
-        refused(
-            heap,
-            b"quote late 900001 type 1 from 1001 to 2002 security 17 quantity 1000 cash 25000.00 currency EUR intended 02-10",
-            "line 1: expected the word matched: quote late 900001 type 1 from 1001 to 2002 security 17 quantity 1000 cash 25000.00 currency EUR intended 02-10",
-        )?;
-        refused(
-            heap,
-            b"quote late 900001 type 1 from 1001 to 2002 security 17 quantity 1000 cash 25000.00 currency EUR intended 02-10 matched 02-13 then",
-            "line 1: expected before or after: quote late 900001 type 1 from 1001 to 2002 security 17 quantity 1000 cash 25000.00 currency EUR intended 02-10 matched 02-13 then",
-        )?;
-        refused(
-            heap,
-            b"quote late 900001 type 1 from 1001 to 2002 security 17 quantity 1000 cash 25000.00 currency EUR intended 02-10 matched 02-13 after",
-            "line 1: expected the word times: quote late 900001 type 1 from 1001 to 2002 security 17 quantity 1000 cash 25000.00 currency EUR intended 02-10 matched 02-13 after",
-        )?;
-        refused(
-            heap,
-            b"quote late 900001 type 1 from 1001 to 2002 security 17 quantity 1000 cash 25000.00 currency EUR intended 02-10 matched 02-13 after times 4294967296",
-            "line 1: expected a time up to 4294967295: quote late 900001 type 1 from 1001 to 2002 security 17 quantity 1000 cash 25000.00 currency EUR intended 02-10 matched 02-13 after times 4294967296",
-        )?;
-        refused(
-            heap,
-            b"quote late 900001 type 1 from 1001 to 2002 security 17 quantity 1000 cash 25000.00 currency EUR intended 02-10 matched 02-13 after times 1",
-            "line 1: expected a time up to 4294967295: quote late 900001 type 1 from 1001 to 2002 security 17 quantity 1000 cash 25000.00 currency EUR intended 02-10 matched 02-13 after times 1",
-        )
-    }
-
-    #[test]
-    fn settings(rt: LibcRuntime) -> Result<(), Fail> {
-        let heap = rt.alloc();
-        refused(
-            heap,
-            b"business",
-            "line 1: expected a day MM-DD or a range MM-DD..MM-DD: business",
-        )?;
-        refused(
-            heap,
-            b"business 01-02 02-01..01-31",
-            "line 1: expected a day MM-DD or a range MM-DD..MM-DD: business 01-02 02-01..01-31",
-        )?;
-        refused(
-            heap,
-            b"business 01-01...12-31",
-            "line 1: expected a day MM-DD or a range MM-DD..MM-DD: business 01-01...12-31",
-        )?;
-        refused(
-            heap,
-            b"opted",
-            "line 1: expected a depository from 10 to 99: opted",
-        )?;
-        refused(
-            heap,
-            b"opted 10 9",
-            "line 1: expected a depository from 10 to 99: opted 10 9",
-        )?;
-        refused(
-            heap,
-            b"opted 100",
-            "line 1: expected a depository from 10 to 99: opted 100",
-        )
-    }
-
-    #[test]
-    fn sources(rt: LibcRuntime) -> Result<(), Fail> {
-        let heap = rt.alloc();
-        refused(
-            heap,
-            b"source",
-            "line 1: expected plain, steps or carry: source",
-        )?;
-        refused(
-            heap,
-            b"source plain 1000001",
-            "line 1: expected a number of rows up to 1000000: source plain 1000001",
-        )?;
-        refused(
-            heap,
-            b"source plain 400",
-            "line 1: expected a number of rows up to 1000000: source plain 400",
-        )?;
-        refused(
-            heap,
-            b"source carry 256",
-            "line 1: expected a number of days up to 255: source carry 256",
-        )?;
-        refused(
-            heap,
-            b"source carry 3 carry",
-            "line 1: expected plain or steps: source carry 3 carry",
-        )?;
         refused(
             heap,
             b"source steps\n\nsource steps\n",
@@ -388,96 +364,25 @@ mod tests {
         )
     }
 
-    #[test]
-    fn numbers_above(rt: LibcRuntime) -> Result<(), Fail> {
-        let heap = rt.alloc();
-        refused(
-            heap,
-            b"sheet security 65536 day 02-10",
-            "line 1: expected a security's number up to 65535: sheet security 65536 day 02-10",
-        )?;
-        refused(
-            heap,
-            b"sheet security +17 day 02-10",
-            "line 1: expected a security's number up to 65535: sheet security +17 day 02-10",
-        )?;
-        refused(
-            heap,
-            b"sheet security 17 day 01-32",
-            "line 1: expected a day MM-DD: sheet security 17 day 01-32",
-        )?;
-        refused(
-            heap,
-            b"sheet security 17 day 00-01",
-            "line 1: expected a day MM-DD: sheet security 17 day 00-01",
-        )?;
-        refused(
-            heap,
-            b"sheet security 17 day 01-00",
-            "line 1: expected a day MM-DD: sheet security 17 day 01-00",
-        )?;
-        refused(
-            heap,
-            b"security 17 day 02-10 price .0000",
-            "line 1: expected a price with four decimals: security 17 day 02-10 price .0000",
-        )?;
-        refused(
-            heap,
-            b"security 17 day 02-10 price 25.00000",
-            "line 1: expected a price with four decimals: security 17 day 02-10 price 25.00000",
-        )?;
-        refused(
-            heap,
-            b"security 17 day 02-10 price 1844674407370955.1616",
-            "line 1: expected a price with four decimals: security 17 day 02-10 price 1844674407370955.1616",
-        )
-    }
+    // The greatest numbers that are read, and the ways to set a line.
+    const READABLE: [&str; 8] = [
+        "sheet security 65535 day 99-31",
+        "sheet security 00017 day 01-31",
+        "sheet currency 255 day 01-01",
+        "security 0 day 13-01 price 1844674407370955.1615 currency 255 class 255",
+        "quote fail 4294967295 type 255 from 65535 to 0 security 0 quantity 18446744073709551615 cash 0.00 currency 0 day 01-01 reasons 255 0",
+        "quote late 0 type 0 from 0 to 0 security 0 quantity 0 cash 0.00 currency 0 intended 01-01 matched 01-01 after times 4294967295 0",
+        "  sheet\tsecurity 17\t day 02-10 \t# x",
+        "sheet security 17 day 02-10#x\r",
+    ];
 
     #[test]
-    fn numbers_above_too(rt: LibcRuntime) -> Result<(), Fail> {
+    fn readable_lines(rt: LibcRuntime) -> Result<(), Fail> {
         let heap = rt.alloc();
-        refused(
-            heap,
-            b"quote fail 4294967296",
-            "line 1: expected an instruction's number up to 4294967295: quote fail 4294967296",
-        )?;
-        refused(
-            heap,
-            b"quote fail 1 type 1 from 1 to 2 security 3 quantity 18446744073709551616",
-            "line 1: expected a quantity up to 18446744073709551615: quote fail 1 type 1 from 1 to 2 security 3 quantity 18446744073709551616",
-        )?;
-        refused(
-            heap,
-            b"security 17 day 02-10 price 25.0000 currency 256",
-            "line 1: expected EUR, DKK or a currency's number up to 255: security 17 day 02-10 price 25.0000 currency 256",
-        )?;
-        refused(
-            heap,
-            b"security 17 day 02-10 # price",
-            "line 1: expected the word price: security 17 day 02-10 # price",
-        )
-    }
-
-    #[test]
-    fn limits(rt: LibcRuntime) -> Result<(), Fail> {
-        let heap = rt.alloc();
-        taken(heap, b"sheet security 65535 day 99-31")?;
-        taken(heap, b"sheet security 00017 day 01-31")?;
-        taken(heap, b"sheet currency 255 day 01-01")?;
-        taken(
-            heap,
-            b"security 0 day 13-01 price 1844674407370955.1615 currency 255 class 255",
-        )?;
-        taken(
-            heap,
-            b"quote fail 4294967295 type 255 from 65535 to 0 security 0 quantity 18446744073709551615 cash 0.00 currency 0 day 01-01 reasons 255 0",
-        )?;
-        taken(
-            heap,
-            b"quote late 0 type 0 from 0 to 0 security 0 quantity 0 cash 0.00 currency 0 intended 01-01 matched 01-01 after times 4294967295 0",
-        )?;
-        taken(heap, b"  sheet\tsecurity 17\t day 02-10 \t# x")?;
-        taken(heap, b"sheet security 17 day 02-10#x\r")
+        for line in READABLE.iter() {
+            taken(heap, line.as_bytes())?;
+        }
+        Ok(())
     }
 
     // Blank lines and comments alone, and bytes that are no text.
@@ -681,109 +586,101 @@ mod tests {
         )
     }
 
-    fn says(heap: Global, rule: Rule, place: (u64, u64), text: &str) -> Result<(), Fail> {
-        let layer = Layer::Calculation;
-        let refusal = Refusal(Fault { rule, layer, place });
-        check_eq(refusal.to_string(heap)?.as_str(), text)
+    // A rule that was broken at a place, and what is printed of it.
+    struct Broken {
+        rule: Rule,
+        place: (u64, u64),
+        text: &'static str,
     }
 
-    #[test]
-    fn sheet_refusals(rt: LibcRuntime) -> Result<(), Fail> {
-        let heap = rt.alloc();
-        says(
-            heap,
-            Rule::ValueOutside,
-            (0, 0),
-            "refused 1 3 0 0 # a price is 0.0001 to 100000.0000; a euro value is up to 10.000000, the euro's 1.000000, the krone's at least 0.010000, any other's at least 0.000001",
-        )?;
-        says(
-            heap,
-            Rule::NoSuchClass,
-            (7, 0),
-            "refused 2 3 7 0 # no class 7: classes are 1 to 6",
-        )?;
-        says(
-            heap,
-            Rule::NoSuchCurrency,
-            (16, 0),
-            "refused 3 3 16 0 # no currency 16: currencies are 0 to 15",
-        )?;
-        says(
-            heap,
-            Rule::RateTooHigh,
-            (100_001, 0),
-            "refused 4 3 100001 0 # a rate of 0.00100001: the highest is 0.00100000",
-        )?;
-        says(
-            heap,
-            Rule::NoSuchSecurity,
-            (0, 0),
-            "refused 5 3 0 0 # no security 0: securities are 1 to 9999",
-        )?;
-        says(
-            heap,
-            Rule::NoSuchDay,
-            (372, 0),
-            "refused 6 3 372 0 # no day 13-01: the year ends on 12-31",
-        )?;
-        says(
-            heap,
-            Rule::NotTaken,
-            (17, 40),
-            "refused 7 3 17 40 # no room in the source for 17 on 02-10",
-        )?;
-        says(
-            heap,
-            Rule::SecurityMissing,
-            (17, 40),
-            "refused 15 3 17 40 # no sheet of security 17 on 02-10: enter one first",
-        )?;
-        says(
-            heap,
-            Rule::CurrencyMissing,
-            (1, 40),
-            "refused 16 3 1 40 # no sheet of currency DKK on 02-10: enter one first",
-        )
-    }
+    const BROKEN: [Broken; 15] = [
+        Broken {
+            rule: Rule::ValueOutside,
+            place: (0, 0),
+            text: "refused 1 3 0 0 # a price is 0.0001 to 100000.0000; a euro value is up to 10.000000, the euro's 1.000000, the krone's at least 0.010000, any other's at least 0.000001",
+        },
+        Broken {
+            rule: Rule::NoSuchClass,
+            place: (7, 0),
+            text: "refused 2 3 7 0 # no class 7: classes are 1 to 6",
+        },
+        Broken {
+            rule: Rule::NoSuchCurrency,
+            place: (16, 0),
+            text: "refused 3 3 16 0 # no currency 16: currencies are 0 to 15",
+        },
+        Broken {
+            rule: Rule::RateTooHigh,
+            place: (100_001, 0),
+            text: "refused 4 3 100001 0 # a rate of 0.00100001: the highest is 0.00100000",
+        },
+        Broken {
+            rule: Rule::NoSuchSecurity,
+            place: (0, 0),
+            text: "refused 5 3 0 0 # no security 0: securities are 1 to 9999",
+        },
+        Broken {
+            rule: Rule::NoSuchDay,
+            place: (372, 0),
+            text: "refused 6 3 372 0 # no day 13-01: the year ends on 12-31",
+        },
+        Broken {
+            rule: Rule::NotTaken,
+            place: (17, 40),
+            text: "refused 7 3 17 40 # no room in the source for 17 on 02-10",
+        },
+        Broken {
+            rule: Rule::SecurityMissing,
+            place: (17, 40),
+            text: "refused 15 3 17 40 # no sheet of security 17 on 02-10: enter one first",
+        },
+        Broken {
+            rule: Rule::CurrencyMissing,
+            place: (1, 40),
+            text: "refused 16 3 1 40 # no sheet of currency DKK on 02-10: enter one first",
+        },
+        Broken {
+            rule: Rule::NoSuchParty,
+            place: (0, 0),
+            text: "refused 9 3 0 0 # instruction 0: an instruction is not 0, and a party is 1000 to 9999",
+        },
+        Broken {
+            rule: Rule::FieldsUnfit,
+            place: (5, 0),
+            text: "refused 10 3 5 0 # type 5: types are 1 to 4, a quantity is at most 1000000000, cash at most 1000000000.00, and the fields fit the type",
+        },
+        Broken {
+            rule: Rule::ReasonsUnlawful,
+            place: (1, 2),
+            text: "refused 11 3 1 2 # reasons 1 and 2 do not go together in this type",
+        },
+        Broken {
+            rule: Rule::NoBusinessDay,
+            place: (0, 40),
+            text: "refused 12 3 0 40 # 02-10 is not a business day",
+        },
+        Broken {
+            rule: Rule::NoUsedDay,
+            place: (40, 43),
+            text: "refused 13 3 40 43 # no used day from 02-10 to 02-13, and a late match needs one",
+        },
+        Broken {
+            rule: Rule::ValueTooLarge,
+            place: (17, 40),
+            text: "refused 17 3 17 40 # quantity times price of security 17 on 02-10 is above 1000000000.0000",
+        },
+    ];
 
     #[test]
-    fn other_refusals(rt: LibcRuntime) -> Result<(), Fail> {
+    fn refusals(rt: LibcRuntime) -> Result<(), Fail> {
         let heap = rt.alloc();
-        says(
-            heap,
-            Rule::NoSuchParty,
-            (0, 0),
-            "refused 9 3 0 0 # instruction 0: an instruction is not 0, and a party is 1000 to 9999",
-        )?;
-        says(
-            heap,
-            Rule::FieldsUnfit,
-            (5, 0),
-            "refused 10 3 5 0 # type 5: types are 1 to 4, a quantity is at most 1000000000, cash at most 1000000000.00, and the fields fit the type",
-        )?;
-        says(
-            heap,
-            Rule::ReasonsUnlawful,
-            (1, 2),
-            "refused 11 3 1 2 # reasons 1 and 2 do not go together in this type",
-        )?;
-        says(
-            heap,
-            Rule::NoBusinessDay,
-            (0, 40),
-            "refused 12 3 0 40 # 02-10 is not a business day",
-        )?;
-        says(
-            heap,
-            Rule::NoUsedDay,
-            (40, 43),
-            "refused 13 3 40 43 # no used day from 02-10 to 02-13, and a late match needs one",
-        )?;
-        says(
-            heap,
-            Rule::ValueTooLarge,
-            (17, 40),
-            "refused 17 3 17 40 # quantity times price of security 17 on 02-10 is above 1000000000.0000",
-        )
+        for case in BROKEN.iter() {
+            let rule = case.rule;
+            let place = case.place;
+            let layer = Layer::Calculation;
+            let refusal = Refusal(Fault { rule, layer, place });
+            check_eq(refusal.to_string(heap)?.as_str(), case.text)?;
+        }
+        Ok(())
     }
 }
