@@ -2,7 +2,7 @@
 use Rattle.std.proofs.Common.{◌≡◌, Bool, List, [], ◌∷◌, Some, None, Err, Option, Result, sym, refl, ap, ◌∙◌}
 use Rattle.sheets.specs.declared.fault.Fault.{Fault}
 use Rattle.reference.specs.Meaning.{Sheets}
-use Rattle.amounts.specs.Steps.{Steps, gives, too_large, reads_security, reads_currency, found, result_of, of_security, of_currency, reads_of}
+use Rattle.calculation.specs.Steps.{Steps, gives, too_large, reads_security, reads_currency, found, result_of, of_security, of_currency, reads_of}
 use Rattle.calculation.specs.Charging.{unless, charges_of, steps_of}
 use Rattle.reports.specs.Reports.{report_refusal}
 use Rattle.reports.specs.declared.report.Report.{Report}

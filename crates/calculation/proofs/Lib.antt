@@ -1,3 +1,6 @@
+mod Rounds
+mod Binding
+mod DaySteps
 pub mod Sums
 mod Whole
 mod Dependence

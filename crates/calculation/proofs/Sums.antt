@@ -4,9 +4,9 @@ use Rattle.std.proofs.lemmas.Bool.{cases_Bool, cond-true, cond-false}
 use Rattle.sheets.specs.declared.fault.Fault.{Fault}
 use Rattle.reference.specs.Meaning.{Sheets}
 use Rattle.reports.specs.Days.{is_business, days_between}
-use Rattle.amounts.specs.Steps.{Steps, gives, ◌>>=◌, and_then, result_of}
+use Rattle.calculation.specs.Steps.{Steps, gives, ◌>>=◌, and_then, result_of}
 use Rattle.calculation.specs.Penalties.{plus, sum_of}
-use Rattle.amounts.proofs.Binding.{result-bind}
+use Rattle.calculation.proofs.Binding.{result-bind}
 use Rattle.reports.proofs.Between.{between_none, between_skip, between_take}
 
 plus-plus : (a b : ℕ) (r : Result ℕ Fault) → plus a (plus b r) ≡ plus (a + b) r

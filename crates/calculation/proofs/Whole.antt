@@ -4,11 +4,10 @@ use Rattle.sheets.specs.declared.fault.Fault.{Fault}
 use Rattle.reference.specs.Meaning.{Sheets}
 use Rattle.reports.specs.declared.report.Side.{Side}
 use Rattle.calculation.specs.declared.charge.Figure.{Figure}
-use Rattle.amounts.specs.Steps.{Steps, gives, ◌>>=◌, result_of}
+use Rattle.calculation.specs.Steps.{Steps, gives, ◌>>=◌, result_of}
 use Rattle.reports.specs.Terms.{Terms}
-use Rattle.amounts.specs.Parts.{day_of}
-use Rattle.calculation.specs.Penalties.{currency_of, sum_of, penalty}
-use Rattle.amounts.proofs.Binding.{bind_ok, bind_err}
+use Rattle.calculation.specs.Penalties.{currency_of, sum_of, day_of, penalty}
+use Rattle.calculation.proofs.Binding.{bind_ok, bind_err}
 
 module _ (m : Sheets) (opted : List Bool) (t : Terms) (side : Side) (days : List ℕ) where
   abbrev summed : ℕ → Steps Figure

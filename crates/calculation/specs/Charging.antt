@@ -11,7 +11,7 @@ use Rattle.calculation.specs.declared.charge.Figure.{Figure}
 use Rattle.calculation.specs.declared.charge.Charge.{Charge}
 use Rattle.calculation.specs.declared.charge.Charges.{Charges}
 use Rattle.calculation.specs.declared.charge.Charges.TheVariants.{One, Two}
-use Rattle.amounts.specs.Steps.{Steps, gives, ◌>>=◌, result_of, reads_of, Read}
+use Rattle.calculation.specs.Steps.{Steps, gives, ◌>>=◌, result_of, reads_of, Read}
 use Rattle.calculation.specs.Penalties.{penalty}
 use Rattle.reports.specs.Terms.{Terms}
 use Rattle.reports.specs.Reports.{report_refusal, report_terms, failing_of, used_days}

@@ -1,3 +1,5 @@
+pub mod Steps
+pub mod Rounding
 pub mod Penalties
 pub mod Charging
 pub mod Reading

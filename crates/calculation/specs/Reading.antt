@@ -1,10 +1,10 @@
--- A charge depends on what it reads, and on nothing else of a source. Assumes nothing.
+-- A penalty depends on what it reads, and on nothing else of a source.
 use Rattle.std.specs.Prelude.{◌≡◌, Bool, List, [], ◌∷◌, Result}
 use Rattle.reference.specs.Meaning.{Sheets}
 use Rattle.sheets.specs.declared.fault.Fault.{Fault}
 use Rattle.reports.specs.declared.report.Report.{Report}
 use Rattle.calculation.specs.declared.charge.Charges.{Charges}
-use Rattle.amounts.specs.Steps.{Read, of_security, of_currency}
+use Rattle.calculation.specs.Steps.{Read, of_security, of_currency}
 use Rattle.calculation.specs.Charging.{charges_of, charges_reads}
 
 -- two sources have the same sheet there, or both have none

@@ -1,7 +1,7 @@
 // What a report is charged, to whom and for whom.
 ghost use Rattle.std.specs.Prelude.{◌≡◌};
 ghost use Rattle.reports.specs.Days.{days_between};
-ghost use Rattle.amounts.specs.Steps.{result_of};
+ghost use Rattle.calculation.specs.Steps.{result_of};
 ghost use Rattle.reports.specs.Terms.{terms_of};
 ghost use Rattle.reference.specs.Meaning.{answers};
 ghost use Rattle.calculation.specs.Charging.{charge_of, charging_side, charging_one, charging, charges_of};

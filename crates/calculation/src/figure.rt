@@ -1,14 +1,13 @@
 // A penalty's currency and amount.
 ghost use Rattle.std.specs.Prelude.{◌≡◌, ◌+◌, ◌-◌, ◌*◌, ◌^◌, ◌<◌, ◌≤◌, IfOk, if◌then◌else◌, Ok};
 ghost use Rattle.reports.specs.Days.{is_business, days_between};
-ghost use Rattle.amounts.specs.Steps.{result_of};
+ghost use Rattle.calculation.specs.Steps.{result_of};
 ghost use Rattle.reference.specs.Meaning.{answers};
 ghost use Rattle.reports.specs.Terms.{terms_of};
-ghost use Rattle.amounts.specs.Parts.{day_of};
-ghost use Rattle.calculation.specs.Penalties.{is_opted, free_currency, is_free, currency_of, plus, sum_of, penalty};
+ghost use Rattle.calculation.specs.Penalties.{is_opted, free_currency, is_free, currency_of, day_of, plus, sum_of, penalty};
 
 use crate::charge::Figure;
-use amounts::day::{day_of, sheet_of};
+use crate::day::{day_of, sheet_of};
 use reference::source::Source;
 use reports::calendar::Calendar;
 use reports::days::last_day;

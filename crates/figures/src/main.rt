@@ -14,7 +14,6 @@ use sheets::fault::Fault;
 use shows::Refusal;
 use std::io;
 use steps::entries::Steps;
-use wording::Meaning;
 
 const EURO: u8 = 0;
 
@@ -22,7 +21,7 @@ const LIQUID: u8 = 1;
 
 fn entered<S: Source>(rt: &HostRuntime, source: &mut S, day: u16, price: u64) -> io::Result<()> {
     let first = shows::Day(day as u64);
-    let shown = shows::Price { units: price };
+    let shown = shows::Price(price);
     match file_security(source, 17, day, price, EURO, LIQUID) {
         Ok(last) => {
             let last = shows::Day(last.number as u64);
@@ -30,8 +29,7 @@ fn entered<S: Source>(rt: &HostRuntime, source: &mut S, day: u16, price: u64) ->
         }
         Err(fault) => {
             let refusal = Refusal(fault);
-            let meaning = Meaning(fault);
-            println!(rt; "{first} entered at {shown}: {refusal} # {meaning}")
+            println!(rt; "{first} entered at {shown}: {refusal}")
         }
     }
 }
@@ -40,9 +38,7 @@ fn asked<S: Source>(rt: &HostRuntime, source: &S, day: u16) -> io::Result<()> {
     let shown = shows::Day(day as u64);
     match raw::security(source, 17, day) {
         Some(sheet) => {
-            let price = shows::Price {
-                units: sheet.price as u64,
-            };
+            let price = shows::Price(sheet.price as u64);
             println!(rt; "{shown} answers {price}")
         }
         None => println!(rt; "{shown} answers none"),
@@ -69,9 +65,7 @@ fn charged(rt: &HostRuntime, charge: Charge) -> io::Result<()> {
     let failing = charge.failing;
     let other = charge.other;
     let currency = shows::Currency(charge.currency as u64);
-    let amount = shows::Money {
-        units: charge.amount,
-    };
+    let amount = shows::Money(charge.amount);
     print!(rt; " charge {failing} to {other} {currency} {amount}")
 }
 
@@ -85,8 +79,7 @@ fn quoted(rt: &HostRuntime, answer: Result<Charges, Fault>) -> io::Result<()> {
         }
         Err(fault) => {
             let refusal = Refusal(fault);
-            let meaning = Meaning(fault);
-            print!(rt; " {refusal} # {meaning}")?;
+            print!(rt; " {refusal}")?;
         }
     }
     println!(rt)

@@ -1,24 +1,42 @@
 -- What the lines of a journal add, one after another. Assumes nothing.
-use Rattle.std.proofs.Common.{◌≡◌, ℕ, ◌+◌, false, List, [], length, replicate, Some, None, Ok, Err, Option, Result, sym, ap, ◌∙◌, subst, arith}
+use Rattle.std.proofs.Common.{◌≡◌, ℕ, ◌+◌, ◌<◌, ◌≤◌, Bool, true, List, [], ◌∷◌, ◌++◌, map, length, get_or, take, set, Some, None, Ok, Err, Option, Result, sym, ap, ◌∙◌, arith, MatchResult}
+use Rattle.std.proofs.lemmas.List.{set_past, map_more, append_assoc}
+use Rattle.std.proofs.lemmas.List.Sums.{fold_more}
 use Rattle.words.specs.Words.{next_line, after_line}
-use Rattle.lines.specs.declared.expected.Expected.{Expected}
-use Rattle.lines.specs.declared.said.Line.{Line}
-use Rattle.lines.specs.Lines.{Said, said_by, line_of, Told}
-use Rattle.lines.specs.declared.said.Call.{Call}
 use Rattle.journal.specs.declared.said.Numbered.{Numbered}
-use Rattle.journal.specs.declared.said.Span.{Span}
+use Rattle.lines.specs.declared.said.Span.{Span}
 use Rattle.journal.specs.declared.said.Journal.{Journal}
-use Rattle.journal.specs.Texts.{lines_of}
-use Rattle.journal.specs.Lists.{Keeps}
-use Rattle.journal.specs.Whole.{Kept, Bad, bad, kept, empty, kept_by, adding, adding_line, and_on, read_from, unsourced, wanting, finished, journal_of}
-use Rattle.journal.specs.Room.{Room, Grown}
-use Rattle.journal.proofs.Texts.{lines_some, lines_none, line_fits}
+use Rattle.journal.specs.declared.read.NotRead.{NotRead}
+use Rattle.journal.specs.declared.read.NotRead.TheVariants as reasons
+use Rattle.lines.specs.declared.unread.Unread.{Unread}
+use Rattle.lines.specs.declared.unread.Unread.TheVariants as unread
+use Rattle.lines.specs.Lines.{Said, business, line_of}
+use Rattle.journal.specs.Whole.{Kept, Bad, bad, numbered, marked, adding, adding_line, and_on, read_from, lines_of, kept_by, unsourced, wanting, finished, all_read, journal_of, Adds, Stops, Holds}
+use Rattle.journal.proofs.Texts.{lines_some, lines_none}
 
-pub told_some : (o : Option Line) (l : Line) (bs : List ℕ) → o ≡ Some l → Told (Ok o) (line_of bs) → line_of bs ≡ Ok (Some (said_by l))
-told_some o l bs e h = subst (λ (x : Option Line). Told (Ok x) (line_of bs)) e h
+-- one place more
+pub mark_more : (ms old new : List Bool) (ps : List ℕ) (i : ℕ) → i < length ps → old ≡ marked ms (take i ps) → new ≡ set old (get_or ps i 0) true → new ≡ marked ms (take (i + 1) ps)
+mark_more ms old new ps i h inv q =
+    q ∙ (ap (λ l. set l (get_or ps i 0) true) inv ∙ sym (fold_more (λ m p. set m p true) ms ps i 0 h))
 
-pub adds_line : (r : Result (Unit {0}) Expected) (k more : Kept) (n : ℕ) (s : Said) (bs : List ℕ) → line_of bs ≡ Ok (Some s) → Keeps r (adding k n s) more → Keeps r (adding_line k n (line_of bs)) more
-adds_line r k more n s bs e h = rw e h
+-- and one past the last
+pub mark_past : (old new : List Bool) (p : ℕ) → length old ≤ p → new ≡ old → new ≡ set old p true
+mark_past old new p h q = q ∙ sym (set_past old p true h)
+
+-- one item more under its line's number
+pub numbered_more : {A : Type 0} (n : ℕ) (before old new : List (Numbered A)) (xs : List A) (i : ℕ) (x : A) → i < length xs → x ≡ get_or xs i x → old ≡ before ++ map (numbered n) (take i xs) → new ≡ old ++ numbered n x ∷ [] → new ≡ before ++ map (numbered n) (take (i + 1) xs)
+numbered_more n before old new xs i x h e inv q =
+    q
+    ∙ (ap (λ l. l ++ numbered n x ∷ []) inv
+    ∙ (append_assoc before (map (numbered n) (take i xs)) (numbered n x ∷ [])
+    ∙ ap (λ l. before ++ l) (ap (λ y. map (numbered n) (take i xs) ++ numbered n y ∷ []) e ∙ sym (map_more (numbered n) xs i x h))))
+
+pub adds_days : (r : Result (Unit {0}) Unread) (k : Kept) (n : ℕ) (s : Said) (l m : List Span) (new : List (Numbered Span)) → s ≡ business l → m ≡ l → MatchResult r (λ _. new ≡ k.days ++ map (numbered n) m) (λ e. e ≡ unread.Memory) → Adds r (adding k n s) (record { days = new; marks = k.marks; from = k.from; asked = k.asked })
+adds_days (Ok u) k n s l m new e q h =
+    ap (adding k n) e
+    ∙ ap (λ d. Ok (record { days = d; marks = k.marks; from = k.from; asked = k.asked })) (ap (λ x. k.days ++ map (numbered n) x) (sym q) ∙ sym h)
+adds_days (Err (unread.Malformed x)) k n s l m new e q h = let z : ◌≡◌ {A = ℕ} 0 1 = cc in absurd (omega arith)
+adds_days (Err unread.Memory) k n s l m new e q h = tt
 
 -- one line more
 pub read_more : (k more : Kept) (n : ℕ) (bs line rest : List ℕ) (all : Result Kept Bad) → Some line ≡ next_line bs → rest ≡ after_line bs → adding_line k (n + 1) (line_of line) ≡ Ok more → read_from k n (lines_of bs) ≡ all → read_from more (n + 1) (lines_of rest) ≡ all
@@ -26,41 +44,25 @@ read_more k more n bs line rest all h r a inv =
     sym (ap (read_from k n) (lines_some bs line rest h r) ∙ ap (λ x. and_on x (bad (n + 1) line) (λ m. read_from m (n + 1) (lines_of rest))) a) ∙ inv
 
 -- a line that cannot be read
-pub read_stop : (e : Expected) (k : Kept) (n : ℕ) (bs line rest : List ℕ) (all : Result Kept Bad) → Some line ≡ next_line bs → rest ≡ after_line bs → adding_line k (n + 1) (line_of line) ≡ Err e → read_from k n (lines_of bs) ≡ all → all ≡ Err (bad (n + 1) line e)
-read_stop e k n bs line rest all h r a inv =
+pub read_stop : (e : Unread) (r : NotRead) (k after : Kept) (n : ℕ) (bs line rest : List ℕ) (all : Result Kept Bad) → Some line ≡ next_line bs → rest ≡ after_line bs → Adds (Err e) (adding_line k (n + 1) (line_of line)) after → Stops e (n + 1) line r → read_from k n (lines_of bs) ≡ all → Holds (Err r) all
+read_stop (unread.Malformed x) (reasons.Malformed m) k after n bs line rest all h r a s inv =
     sym inv
     ∙ (ap (read_from k n) (lines_some bs line rest h r)
-    ∙ ap (λ y. and_on y (bad (n + 1) line) (λ z. read_from z (n + 1) (lines_of rest))) a)
+    ∙ (ap (λ y. and_on y (bad (n + 1) line) (λ z. read_from z (n + 1) (lines_of rest))) a
+    ∙ ap Err (sym s)))
+read_stop (unread.Malformed x) reasons.Memory k after n bs line rest all h r a s inv = absurd s
+read_stop unread.Memory (reasons.Malformed m) k after n bs line rest all h r a s inv = let z : ◌≡◌ {A = ℕ} 0 1 = cc in absurd (omega arith)
+read_stop unread.Memory reasons.Memory k after n bs line rest all h r a s inv = tt
 
 pub read_done : (k : Kept) (n : ℕ) (bs : List ℕ) (all : Result Kept Bad) → None ≡ next_line bs → read_from k n (lines_of bs) ≡ all → all ≡ Ok k
 read_done k n bs all h inv = sym inv ∙ ap (read_from k n) (lines_none bs h)
 
--- the room that is left after a line is enough for the others
-pub room_left : (j k : Journal) (bs line rest : List ℕ) → Some line ≡ next_line bs → rest ≡ after_line bs → Room (length bs) (length (lines_of bs)) j → Grown (length line) 1 j k → Room (length rest) (length (lines_of rest)) k
-room_left j k bs line rest h r room grown =
-    let bytes = line_fits bs line rest h r in
-    let lines = ap length (lines_some bs line rest h r) in (
-      omega (arith, bytes, room.0, grown.0, grown.1),
-      omega (arith, lines, room.1, grown.2, grown.3),
-    )
-
--- the room of a text is enough for its first line
-pub room_first : (j : Journal) (bs line rest : List ℕ) → Some line ≡ next_line bs → rest ≡ after_line bs → Room (length bs) (length (lines_of bs)) j → Room (length line) 1 j
-room_first j bs line rest h r room =
-    let bytes = line_fits bs line rest h r in
-    let lines = ap length (lines_some bs line rest h r) in (
-      omega (arith, bytes, room.0),
-      omega (arith, lines, room.1),
-    )
-
-pub from_empty : (days : List (Numbered Span)) (asked : List (Numbered Call)) (ls : List (List ℕ)) → days ≡ [] → asked ≡ [] → read_from empty 0 ls ≡ read_from (kept days (replicate 90 false) None asked) 0 ls
-from_empty days asked ls d a = λ i. read_from (kept (sym d i) (replicate 90 false) None (sym a i)) 0 ls
-
-pub journal_stop : (b : Bad) (text : List ℕ) → read_from empty 0 (lines_of text) ≡ Err b → journal_of text ≡ Err b
+pub journal_stop : (r : NotRead) (text : List ℕ) → Holds (Err r) (all_read text) → Holds (Err r) (journal_of text)
 unfolding journal_of
-journal_stop b text h = ap (λ p. finished p (lines_of text)) h
+journal_stop (reasons.Malformed m) text h = ap (λ p. finished p (lines_of text)) h
+journal_stop reasons.Memory text h = tt
 
-pub journal_at : (j : Journal) (o : Option ℕ) (text : List ℕ) → read_from empty 0 (lines_of text) ≡ Ok (kept_by j) → o ≡ unsourced (kept_by j).from (kept_by j).asked → journal_of text ≡ wanting o (kept_by j) (lines_of text)
+pub journal_at : (j : Journal) (o : Option ℕ) (text : List ℕ) → all_read text ≡ Ok (kept_by j) → o ≡ unsourced (kept_by j).from (kept_by j).asked → journal_of text ≡ wanting o (kept_by j) (lines_of text)
 unfolding journal_of
 journal_at j o text h q =
     ap (λ p. finished p (lines_of text)) h ∙ ap (λ x. wanting x (kept_by j) (lines_of text)) (sym q)

@@ -1,4 +1,1 @@
-pub mod Texts
-pub mod Lists
 pub mod Whole
-pub mod Room

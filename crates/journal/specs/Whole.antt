@@ -1,17 +1,18 @@
 -- What a whole journal says: what each of its lines adds, and which line cannot be read. Assumes nothing.
-use Rattle.std.specs.Prelude.{◌≡◌, ℕ, ◌+◌, ◌-◌, Bool, false, List, [], ◌∷◌, ◌++◌, replicate, Some, None, Ok, Err, vec_items, Option, Result, slice_index_or}
+use Rattle.std.specs.Prelude.{◌≡◌, ℕ, ◌+◌, ◌-◌, Bool, true, false, cond, List, [], ◌∷◌, ◌++◌, map, replicate, Some, None, Ok, Err, vec_items, fold, Option, Result, ◌==◌, slice_index_or, slice_set}
 use Rattle.lines.specs.declared.expected.Expected.{Expected}
 use Rattle.lines.specs.declared.expected.Expected.TheVariants as expected
+use Rattle.lines.specs.declared.said.Span.{Span}
 use Rattle.lines.specs.declared.said.Source.{Source}
 use Rattle.lines.specs.declared.said.Call.{Call}
-use Rattle.lines.specs.Lines.{Said, business, opted, source, call, mapped, line_of}
 use Rattle.journal.specs.declared.said.Numbered.{Numbered}
-use Rattle.journal.specs.declared.said.Span.{Span}
 use Rattle.journal.specs.declared.said.Journal.{Journal}
-use Rattle.journal.specs.declared.reader.Reader.{Reader}
-use Rattle.journal.specs.declared.reader.read.Malformed.{Malformed}
-use Rattle.journal.specs.Texts.{lines_of}
-use Rattle.journal.specs.Lists.{numbered, days_from, marks_from}
+use Rattle.journal.specs.declared.read.Malformed.{Malformed}
+use Rattle.journal.specs.declared.read.NotRead.{NotRead}
+use Rattle.journal.specs.declared.read.NotRead.TheVariants as reasons
+use Rattle.lines.specs.declared.unread.Unread.{Unread}
+use Rattle.lines.specs.declared.unread.Unread.TheVariants as unread
+use Rattle.lines.specs.Lines.{Said, business, opted, source, call, line_of}
 
 -- a journal, with its lists in place of the vectors that hold them
 pub record Kept : Type 0 where
@@ -20,30 +21,30 @@ pub record Kept : Type 0 where
   pub from : Option Source
   pub asked : List (Numbered Call)
 
-abbrev pub kept : List (Numbered Span) → List Bool → Option Source → List (Numbered Call) → Kept
-kept days marks from asked = record { days = days; marks = marks; from = from; asked = asked }
-
 -- nothing was said yet
 abbrev pub empty : Kept
-empty = kept [] (replicate 90 false) None []
+empty = record { days = []; marks = replicate 90 false; from = None; asked = [] }
 
 abbrev pub kept_by : Journal → Kept
-kept_by j = kept (vec_items j.business) j.opted j.source (vec_items j.calls)
+kept_by j = record { days = vec_items j.business; marks = j.opted; from = j.source; asked = vec_items j.calls }
 
-abbrev pub text_of : Reader → List ℕ
-text_of r = r.text.now
+abbrev pub numbered : {A : Type 0} → ℕ → A → Numbered A
+numbered n a = record { line = n; said = a }
+
+abbrev pub marked : List Bool → List ℕ → List Bool
+marked ms places = fold (λ m p. slice_set m p true) ms places
 
 -- a journal has one source line
-abbrev pub sourced : Option Source → Source → Result (Option Source) Expected
-sourced None s = Ok (Some s)
-sourced (Some t) s = Err expected.OneSource
+abbrev pub sourced : Kept → Option Source → Source → Result Kept Expected
+sourced k None s = Ok (record { days = k.days; marks = k.marks; from = Some s; asked = k.asked })
+sourced k (Some t) s = Err expected.OneSource
 
 -- what the line of a number adds
 abbrev pub adding : Kept → ℕ → Said → Result Kept Expected
-adding k n (business bs) = mapped (days_from n k.days bs) (λ days. kept days k.marks k.from k.asked)
-adding k n (opted bs) = mapped (marks_from k.marks bs) (λ marks. kept k.days marks k.from k.asked)
-adding k n (source s) = mapped (sourced k.from s) (λ from. kept k.days k.marks from k.asked)
-adding k n (call c) = Ok (kept k.days k.marks k.from (k.asked ++ numbered n c ∷ []))
+adding k n (business l) = Ok (record { days = k.days ++ map (numbered n) l; marks = k.marks; from = k.from; asked = k.asked })
+adding k n (opted l) = Ok (record { days = k.days; marks = marked k.marks l; from = k.from; asked = k.asked })
+adding k n (source s) = sourced k k.from s
+adding k n (call c) = Ok (record { days = k.days; marks = k.marks; from = k.from; asked = k.asked ++ numbered n c ∷ [] })
 
 abbrev pub adding_line : Kept → ℕ → Result (Option Said) Expected → Result Kept Expected
 adding_line k n (Ok None) = Ok k
@@ -58,6 +59,15 @@ pub record Bad : Type 0 where
 
 abbrev pub bad : ℕ → List ℕ → Expected → Bad
 bad n t e = record { number = n; text = t; expected = e }
+
+abbrev pub on_first : ℕ → List (List ℕ) → List (List ℕ)
+on_first b [] = (b ∷ []) ∷ []
+on_first b (l ∷ ls) = (b ∷ l) ∷ ls
+
+-- the lines of a text, each ended by a line feed; the last may lack it
+abbrev pub lines_of : List ℕ → List (List ℕ)
+lines_of [] = []
+lines_of (b ∷ bs) = cond (b == 10) ([] ∷ lines_of bs) (on_first b (lines_of bs))
 
 abbrev pub and_on : Result Kept Expected → (Expected → Bad) → (Kept → Result Kept Bad) → Result Kept Bad
 and_on (Ok k) at next = next k
@@ -83,10 +93,26 @@ abbrev pub finished : Result Kept Bad → List (List ℕ) → Result Kept Bad
 finished (Ok k) ls = wanting (unsourced k.from k.asked) k ls
 finished (Err b) ls = Err b
 
-unfoldable pub journal_of : List ℕ → Result Kept Bad
-journal_of text = finished (read_from empty 0 (lines_of text)) (lines_of text)
+unfoldable pub all_read : List ℕ → Result Kept Bad
+all_read text = read_from empty 0 (lines_of text)
 
--- the journal is as p says, or the line that cannot be read is
-abbrev pub Holds : Result Journal Malformed → Result Kept Bad → Type 0
+unfoldable pub journal_of : List ℕ → Result Kept Bad
+journal_of text = finished (all_read text) (lines_of text)
+
+-- what was added is as p says, where there was memory
+abbrev pub Adds : Result (Unit {0}) Unread → Result Kept Expected → Kept → Type 0
+Adds (Ok u) p k = p ≡ Ok k
+Adds (Err (unread.Malformed e)) p k = p ≡ Err e
+Adds (Err unread.Memory) p k = Unit {0}
+
+-- why a journal was not read, from why a line was not
+abbrev pub Stops : Unread → ℕ → List ℕ → NotRead → Type 0
+Stops (unread.Malformed e) n t (reasons.Malformed m) = bad m.number m.text.now m.expected ≡ bad n t e
+Stops (unread.Malformed e) n t reasons.Memory = ⊥
+Stops unread.Memory n t r = r ≡ reasons.Memory
+
+-- the journal is as p says, where there was memory
+abbrev pub Holds : Result Journal NotRead → Result Kept Bad → Type 0
 Holds (Ok j) p = p ≡ Ok (kept_by j)
-Holds (Err m) p = p ≡ Err (bad m.number m.text.now m.expected)
+Holds (Err (reasons.Malformed m)) p = p ≡ Err (bad m.number m.text.now m.expected)
+Holds (Err reasons.Memory) p = Unit {0}

@@ -1,4 +1,3 @@
 // A whole journal, read from its text.
-mod list;
-pub mod reader;
+pub mod read;
 pub mod said;

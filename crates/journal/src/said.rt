@@ -1,18 +1,11 @@
 // A journal that was read: its settings, and its calls with the numbers of their lines.
-use lines::said::{Call, Source};
+use lines::said::{Call, Source, Span};
 
 // What was said, and on which line, from 1.
 #[derive(Clone, Copy)]
 pub struct Numbered<T> {
     pub line: usize,
     pub said: T,
-}
-
-// The days from the first to the last, by their numbers.
-#[derive(Clone, Copy)]
-pub struct Span {
-    pub first: u16,
-    pub last: u16,
 }
 
 // A journal with a call has a source. Depository 10 stands first among the opted.

@@ -1,7 +1,7 @@
 // The tests of `journal`, in a crate of their own: a crate with tests is proved twice.
 #[cfg(test)]
 mod tests {
-    use journal::reader::Reader;
+    use journal::read::journal_of;
     use journal::said::Journal;
     use lines::said::{Base, Call, Event, Quote, Source, Trade};
     use sheets::fault::{Fault, Layer, Rule};
@@ -9,11 +9,10 @@ mod tests {
     use std::alloc::Global;
     use std::process::Abort;
     use std::test::Fail;
-    use wording::Meaning;
 
     // A journal that cannot be read: the whole message.
     fn refused(rt: &impl Abort, heap: Global, text: &[u8], message: &str) -> Result<(), Fail> {
-        match Reader::new(heap, text)?.read() {
+        match journal_of(heap, text) {
             Err(why) => {
                 assert_eq!(rt; why.to_string(heap)?.as_str(), message);
                 Ok(())
@@ -24,7 +23,7 @@ mod tests {
 
     // A journal that is refused only for want of a source.
     fn taken(rt: &impl Abort, heap: Global, text: &[u8]) -> Result<(), Fail> {
-        match Reader::new(heap, text)?.read() {
+        match journal_of(heap, text) {
             Err(why) => {
                 assert!(rt;
                     why.to_string(heap)?.as_str().starts_with(
@@ -382,7 +381,7 @@ mod tests {
             b"\n \xff\n",
             "line 2: expected business, opted, source, security, currency, sheet or quote: (no UTF-8 text)",
         )?;
-        match Reader::new(heap, b"\n  # quote\n\t\r\n#")?.read() {
+        match journal_of(heap, b"\n  # quote\n\t\r\n#") {
             Ok(journal) => {
                 assert!(rt;
                     journal.calls.is_empty()
@@ -407,7 +406,7 @@ mod tests {
     }
 
     fn called(rt: &impl Abort, heap: Global, text: &[u8], call: Call) -> Result<(), Fail> {
-        match Reader::new(heap, text)?.read() {
+        match journal_of(heap, text) {
             Ok(journal) => {
                 assert!(rt; first(&journal)? == call);
                 Ok(())
@@ -500,7 +499,7 @@ mod tests {
     }
 
     fn source_is(rt: &impl Abort, heap: Global, text: &[u8], source: Source) -> Result<(), Fail> {
-        match Reader::new(heap, text)?.read() {
+        match journal_of(heap, text) {
             Ok(journal) => {
                 assert!(rt; journal.source == Some(source));
                 Ok(())
@@ -574,8 +573,10 @@ mod tests {
     #[test]
     fn settings_read(rt: HostRuntime) -> Result<(), Fail> {
         let heap = rt.alloc();
-        let text = b"business 01-01..01-01 99-31\nopted 10 99\nbusiness 02-01..12-31";
-        match Reader::new(heap, text)?.read() {
+        match journal_of(
+            heap,
+            b"business 01-01..01-01 99-31\nopted 10 99\nbusiness 02-01..12-31",
+        ) {
             Ok(journal) => settings_of(&rt, &journal),
             Err(why) => {
                 assert_eq!(rt; why.to_string(heap)?.as_str(), "");
@@ -589,20 +590,20 @@ mod tests {
         let heap = rt.alloc();
         let day = Day(40);
         let most = Day(u64::MAX);
-        let price = Price { units: 250_001 };
-        let money = Money { units: 5 };
-        let rate = Rate { units: 6_000 };
-        let value = Value { units: 10_000_000 };
+        let price = Price(250_001);
+        let money = Money(5);
+        let rate = Rate(6_000);
+        let value = Value(10_000_000);
         assert_eq!(rt;
-            format!(in heap; "{day} {most} {price} {money}")?.as_str(),
-            "02-10 595056260442243601-16 25.0001 0.05"
+            format!(in heap; "{day} {most} {price} {money:>6}|")?.as_str(),
+            "02-10 595056260442243601-16 25.0001   0.05|"
         );
         let euro = Currency(0);
         let krone = Currency(1);
         let other = Currency(255);
         assert_eq!(rt;
-            format!(in heap; "{rate} {value} {euro} {krone} {other}")?.as_str(),
-            "0.00006000 10.000000 EUR DKK 255"
+            format!(in heap; "{rate} {value} {euro} {krone} {other:<4}|")?.as_str(),
+            "0.00006000 10.000000 EUR DKK 255 |"
         );
         Ok(())
     }
@@ -699,13 +700,8 @@ mod tests {
             let rule = case.rule;
             let place = case.place;
             let layer = Layer::Calculation;
-            let fault = Fault { rule, layer, place };
-            let refusal = Refusal(fault);
-            let meaning = Meaning(fault);
-            assert_eq!(rt;
-                format!(in heap; "{refusal} # {meaning}")?.as_str(),
-                case.text
-            );
+            let refusal = Refusal(Fault { rule, layer, place });
+            assert_eq!(rt; refusal.to_string(heap)?.as_str(), case.text);
         }
         Ok(())
     }

@@ -1,3 +1,3 @@
 mod Fields
+mod Lists
 mod Lines
-pub mod Lists

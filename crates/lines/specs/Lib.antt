@@ -1,6 +1,7 @@
 pub mod Grammar
-pub mod Written
 pub mod Fields
 pub mod Calls
 pub mod Settings
+pub mod Lists
 pub mod Lines
+pub mod Unread

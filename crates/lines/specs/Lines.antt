@@ -1,39 +1,33 @@
 -- What a line of a journal says. Assumes nothing.
-use Rattle.std.specs.Prelude.{◌≡◌, ℕ, List, length, Some, None, Ok, Err, Option, Result}
-use Rattle.words.specs.Words.{left, next_word, after_word, before_comment}
+use Rattle.std.specs.Prelude.{ℕ, List, Some, None, Ok, Err, vec_items, Option, Result}
+use Rattle.words.specs.Words.{next_word, after_word, before_comment}
 use Rattle.lines.specs.declared.choice.Kind.{Kind}
 use Rattle.lines.specs.declared.choice.Kind.TheVariants as kinds
 use Rattle.lines.specs.declared.expected.Expected.{Expected}
 use Rattle.lines.specs.declared.expected.Expected.TheVariants as expected
+use Rattle.lines.specs.declared.said.Span.{Span}
 use Rattle.lines.specs.declared.said.Source.{Source}
 use Rattle.lines.specs.declared.said.Call.{Call}
 use Rattle.lines.specs.declared.said.Line.{Line}
 use Rattle.lines.specs.declared.said.Line.TheVariants as lines
 use Rattle.lines.specs.Grammar.{Parsed, reads, fails, and_then}
-use Rattle.lines.specs.Written.{kind_of}
-use Rattle.lines.specs.Fields.{end}
+use Rattle.lines.specs.Fields.{end, kind_of}
 use Rattle.lines.specs.Calls as calls
 use Rattle.lines.specs.Settings as settings
+use Rattle.lines.specs.Lists.{spans, depositories}
 
--- what a line says; of a list, the text that follows its first word
+-- a line, with its list in place of the vector that holds it
 pub data Said : Type 0 where
-  business : List ℕ → Said
+  business : List Span → Said
   opted : List ℕ → Said
   source : Source → Said
   call : Call → Said
 
 abbrev pub said_by : Line → Said
-said_by (lines.Business w) = business (left w)
-said_by (lines.Opted w) = opted (left w)
+said_by (lines.Business v) = business (vec_items v)
+said_by (lines.Opted v) = opted (vec_items v)
 said_by (lines.Source s) = source s
 said_by (lines.Call c) = call c
-
--- the bytes of a list
-abbrev pub listed : Said → ℕ
-listed (business bs) = length bs
-listed (opted bs) = length bs
-listed (source s) = 0
-listed (call c) = 0
 
 -- and nothing after it
 abbrev pub ended : {A : Type 0} → (List ℕ → Parsed A) → List ℕ → Parsed A
@@ -49,8 +43,8 @@ mapped (Err e) f = Err e
 
 -- what follows the first word of a line
 abbrev pub line_for : Kind → List ℕ → Result Said Expected
-line_for kinds.Business bs = Ok (business bs)
-line_for kinds.Opted bs = Ok (opted bs)
+line_for kinds.Business bs = mapped (spans bs) business
+line_for kinds.Opted bs = mapped (depositories bs) opted
 line_for kinds.Source bs = whole (ended settings.source bs) source
 line_for (kinds.Call v) bs = whole (ended (calls.call v) bs) call
 
@@ -65,14 +59,3 @@ begun (Some w) rest = kindly (kind_of w) rest
 -- nothing where the line has no word
 unfoldable pub line_of : List ℕ → Result (Option Said) Expected
 line_of bs = begun (next_word (before_comment bs)) (after_word (before_comment bs))
-
--- the line says what p says
-abbrev pub Says : Result Line Expected → Result Said Expected → Type 0
-Says (Ok l) p = p ≡ Ok (said_by l)
-Says (Err e) p = p ≡ Err e
-
--- the same of a line that may have no word
-abbrev pub Told : Result (Option Line) Expected → Result (Option Said) Expected → Type 0
-Told (Ok None) p = p ≡ Ok None
-Told (Ok (Some l)) p = p ≡ Ok (Some (said_by l))
-Told (Err e) p = p ≡ Err e

@@ -1,47 +1,40 @@
--- The line that sets where sheets are kept, with its words in their order. Assumes nothing.
-use Rattle.std.specs.Prelude.{ℕ, List, Some, None, Option}
-use Rattle.words.specs.Numbers.{number_of}
+-- The settings of a journal, each with the words of its line in their order. Assumes nothing.
+use Rattle.std.specs.Prelude.{ℕ, Bool, true, false, List, Some, None, Option}
 use Rattle.lines.specs.declared.choice.Form.{Form}
 use Rattle.lines.specs.declared.choice.Form.TheVariants as forms
 use Rattle.lines.specs.declared.expected.Expected.TheVariants as expected
-use Rattle.lines.specs.declared.word.Rows.{Rows}
 use Rattle.lines.specs.declared.said.Base.{Base}
 use Rattle.lines.specs.declared.said.Base.TheVariants.{Plain, Steps}
 use Rattle.lines.specs.declared.said.Source.{Source}
-use Rattle.lines.specs.Grammar.{Parsed, reads, fails, and_then, field}
-use Rattle.lines.specs.Written.{rows_word, form_of}
+use Rattle.lines.specs.Grammar.{Parsed, reads, and_then}
+use Rattle.lines.specs.Fields as field
 
 abbrev pub over : Option ℕ → Base → Source
 over reach base = record { reach = reach; base = base }
 
-abbrev pub rows : List ℕ → Parsed Rows
-rows = field rows_word expected.Rows
+abbrev pub rows : List ℕ → Parsed ℕ
+rows = field.number 1000000 expected.Rows
 
 -- 400 100
 abbrev pub plain : List ℕ → Parsed Base
-plain = and_then rows (λ s. and_then rows (λ c. reads (Plain s.count c.count)))
+plain = and_then rows (λ s. and_then rows (λ c. reads (Plain s c)))
 
--- after plain: 400 100; after steps: nothing; a layer is not a base
-abbrev pub base : Form → List ℕ → Parsed Base
-base forms.Plain = plain
-base forms.Steps = reads Steps
-base forms.Carry = λ _. fails expected.Base
+abbrev pub based : Bool → List ℕ → Parsed Base
+based true = reads Steps
+based false = plain
+
+-- plain 400 100, or steps
+abbrev pub base : List ℕ → Parsed Base
+base = and_then field.stepped based
 
 -- 3 plain 400 100, or 3 steps
 abbrev pub carry : List ℕ → Parsed Source
-carry =
-    and_then (field (number_of 255) expected.Reach) (λ n.
-    and_then (field form_of expected.Base) (λ f.
-    and_then (base f) (λ b.
-    reads (over (Some n) b))))
-
-abbrev pub bare : Form → List ℕ → Parsed Source
-bare f = and_then (base f) (λ b. reads (over None b))
+carry = and_then (field.number 255 expected.Reach) (λ n. and_then base (λ b. reads (over (Some n) b)))
 
 abbrev pub formed : Form → List ℕ → Parsed Source
-formed forms.Plain = bare forms.Plain
-formed forms.Steps = bare forms.Steps
+formed forms.Plain = and_then plain (λ b. reads (over None b))
+formed forms.Steps = reads (over None Steps)
 formed forms.Carry = carry
 
 abbrev pub source : List ℕ → Parsed Source
-source = and_then (field form_of expected.Source) formed
+source = and_then field.form formed

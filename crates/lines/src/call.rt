@@ -3,26 +3,25 @@ ghost use Rattle.words.specs.Words.{left};
 ghost use Rattle.lines.specs.Grammar.{Reads};
 ghost use Rattle.lines.specs.Calls as calls;
 
-use crate::choice::{CutOff, Happened, Subject, Verb};
+use crate::choice::{Happened, Subject, Verb};
 use crate::expected::{Expected, Keyword};
-use crate::field::{field, keyed, pair};
 use crate::said::{Call, Event, Quote, Trade};
-use crate::word::{Currency, Day, Decimal};
+use crate::{field, keyed};
 use words::scan::Words;
 
 fn enter_security(words: &mut Words<'_>) -> Result<Call, Expected>
     ensures cases { Reads calls.enter_security (left words.old) result (left words.new) }
 {
-    let security = field::<u16>(words, Expected::Security)?;
-    let day = keyed::<Day>(words, Keyword::Day, Expected::Day)?;
-    let price = keyed::<Decimal<4>>(words, Keyword::Price, Expected::Price)?;
-    let currency = keyed::<Currency>(words, Keyword::Currency, Expected::Currency)?;
-    let class = keyed::<u8>(words, Keyword::Class, Expected::Class)?;
+    let security = field::number16(words, Expected::Security)?;
+    let day = keyed::day(words, Keyword::Day)?;
+    let price = keyed::decimal(words, Keyword::Price, 4, Expected::Price)?;
+    let currency = keyed::currency(words)?;
+    let class = keyed::number8(words, Keyword::Class, Expected::Class)?;
     Ok(Call::EnterSecurity {
         security,
-        day: day.number,
-        price: price.digits,
-        currency: currency.number,
+        day,
+        price,
+        currency,
         class,
     })
 }
@@ -30,44 +29,38 @@ fn enter_security(words: &mut Words<'_>) -> Result<Call, Expected>
 fn enter_currency(words: &mut Words<'_>) -> Result<Call, Expected>
     ensures cases { Reads calls.enter_currency (left words.old) result (left words.new) }
 {
-    let currency = field::<Currency>(words, Expected::Currency)?;
-    let day = keyed::<Day>(words, Keyword::Day, Expected::Day)?;
-    let rate = keyed::<Decimal<8>>(words, Keyword::Rate, Expected::Rate)?;
-    let value = keyed::<Decimal<6>>(words, Keyword::Value, Expected::Value)?;
+    let currency = field::currency(words)?;
+    let day = keyed::day(words, Keyword::Day)?;
+    let rate = keyed::decimal(words, Keyword::Rate, 8, Expected::Rate)?;
+    let value = keyed::decimal(words, Keyword::Value, 6, Expected::Value)?;
     Ok(Call::EnterCurrency {
-        currency: currency.number,
-        day: day.number,
-        rate: rate.digits,
-        value: value.digits,
+        currency,
+        day,
+        rate,
+        value,
     })
 }
 
 fn ask_security(words: &mut Words<'_>) -> Result<Call, Expected>
     ensures cases { Reads calls.ask_security (left words.old) result (left words.new) }
 {
-    let security = field::<u16>(words, Expected::Security)?;
-    let day = keyed::<Day>(words, Keyword::Day, Expected::Day)?;
-    Ok(Call::AskSecurity {
-        security,
-        day: day.number,
-    })
+    let security = field::number16(words, Expected::Security)?;
+    let day = keyed::day(words, Keyword::Day)?;
+    Ok(Call::AskSecurity { security, day })
 }
 
 fn ask_currency(words: &mut Words<'_>) -> Result<Call, Expected>
     ensures cases { Reads calls.ask_currency (left words.old) result (left words.new) }
 {
-    let currency = field::<Currency>(words, Expected::Currency)?;
-    let day = keyed::<Day>(words, Keyword::Day, Expected::Day)?;
-    Ok(Call::AskCurrency {
-        currency: currency.number,
-        day: day.number,
-    })
+    let currency = field::currency(words)?;
+    let day = keyed::day(words, Keyword::Day)?;
+    Ok(Call::AskCurrency { currency, day })
 }
 
 fn sheet(words: &mut Words<'_>) -> Result<Call, Expected>
     ensures cases { Reads calls.sheet (left words.old) result (left words.new) }
 {
-    match field::<Subject>(words, Expected::Subject)? {
+    match field::subject(words)? {
         Subject::Security => ask_security(words),
         Subject::Currency => ask_currency(words),
     }
@@ -76,32 +69,32 @@ fn sheet(words: &mut Words<'_>) -> Result<Call, Expected>
 fn parties(words: &mut Words<'_>) -> Result<(u16, u16), Expected>
     ensures cases { Reads calls.parties (left words.old) result (left words.new) }
 {
-    let deliverer = keyed::<u16>(words, Keyword::From, Expected::Party)?;
-    let receiver = keyed::<u16>(words, Keyword::To, Expected::Party)?;
+    let deliverer = keyed::number16(words, Keyword::From, Expected::Party)?;
+    let receiver = keyed::number16(words, Keyword::To, Expected::Party)?;
     Ok((deliverer, receiver))
 }
 
 fn goods(words: &mut Words<'_>) -> Result<(u16, u64), Expected>
     ensures cases { Reads calls.goods (left words.old) result (left words.new) }
 {
-    let security = keyed::<u16>(words, Keyword::Security, Expected::Security)?;
-    let quantity = keyed::<u64>(words, Keyword::Quantity, Expected::Quantity)?;
+    let security = keyed::number16(words, Keyword::Security, Expected::Security)?;
+    let quantity = keyed::number64(words, Keyword::Quantity, Expected::Quantity)?;
     Ok((security, quantity))
 }
 
 fn money(words: &mut Words<'_>) -> Result<(u64, u8), Expected>
     ensures cases { Reads calls.money (left words.old) result (left words.new) }
 {
-    let cash = keyed::<Decimal<2>>(words, Keyword::Cash, Expected::Cash)?;
-    let currency = keyed::<Currency>(words, Keyword::Currency, Expected::Currency)?;
-    Ok((cash.digits, currency.number))
+    let cash = keyed::decimal(words, Keyword::Cash, 2, Expected::Cash)?;
+    let currency = keyed::currency(words)?;
+    Ok((cash, currency))
 }
 
 fn trade(words: &mut Words<'_>) -> Result<Trade, Expected>
     ensures cases { Reads calls.trade (left words.old) result (left words.new) }
 {
-    let instruction = field::<u32>(words, Expected::Instruction)?;
-    let kind = keyed::<u8>(words, Keyword::Type, Expected::Type)?;
+    let instruction = field::number32(words, Expected::Instruction)?;
+    let kind = keyed::number8(words, Keyword::Type, Expected::Type)?;
     let (deliverer, receiver) = parties(words)?;
     let (security, quantity) = goods(words)?;
     let (cash, currency) = money(words)?;
@@ -117,28 +110,43 @@ fn trade(words: &mut Words<'_>) -> Result<Trade, Expected>
     })
 }
 
+fn reasons(words: &mut Words<'_>) -> Result<(u8, u8), Expected>
+    ensures cases { Reads calls.reasons (left words.old) result (left words.new) }
+{
+    field::keyword(words, Keyword::Reasons)?;
+    let first = field::number8(words, Expected::Reason)?;
+    let second = field::number8(words, Expected::Reason)?;
+    Ok((first, second))
+}
+
+fn times(words: &mut Words<'_>) -> Result<(u32, u32), Expected>
+    ensures cases { Reads calls.times (left words.old) result (left words.new) }
+{
+    field::keyword(words, Keyword::Times)?;
+    let first = field::number32(words, Expected::Time)?;
+    let second = field::number32(words, Expected::Time)?;
+    Ok((first, second))
+}
+
 fn fail(words: &mut Words<'_>) -> Result<Event, Expected>
     ensures cases { Reads calls.fail (left words.old) result (left words.new) }
 {
-    let day = keyed::<Day>(words, Keyword::Day, Expected::Day)?;
-    let reasons = pair::<u8>(words, Keyword::Reasons, Expected::Reason)?;
-    Ok(Event::Fail {
-        day: day.number,
-        reasons,
-    })
+    let day = keyed::day(words, Keyword::Day)?;
+    let reasons = reasons(words)?;
+    Ok(Event::Fail { day, reasons })
 }
 
 fn late(words: &mut Words<'_>) -> Result<Event, Expected>
     ensures cases { Reads calls.late (left words.old) result (left words.new) }
 {
-    let intended = keyed::<Day>(words, Keyword::Intended, Expected::Day)?;
-    let matched = keyed::<Day>(words, Keyword::Matched, Expected::Day)?;
-    let cut_off = field::<CutOff>(words, Expected::CutOff)?;
-    let times = pair::<u32>(words, Keyword::Times, Expected::Time)?;
+    let intended = keyed::day(words, Keyword::Intended)?;
+    let matched = keyed::day(words, Keyword::Matched)?;
+    let after = field::side(words)?;
+    let times = times(words)?;
     Ok(Event::Late {
-        intended: intended.number,
-        matched: matched.number,
-        after: cut_off.passed,
+        intended,
+        matched,
+        after,
         times,
     })
 }
@@ -155,7 +163,7 @@ fn event(words: &mut Words<'_>, happened: Happened) -> Result<Event, Expected>
 fn quote(words: &mut Words<'_>) -> Result<Call, Expected>
     ensures cases { Reads calls.quote (left words.old) result (left words.new) }
 {
-    let happened = field::<Happened>(words, Expected::Event)?;
+    let happened = field::happened(words)?;
     let trade = trade(words)?;
     let event = event(words, happened)?;
     Ok(Call::Quote(Quote { trade, event }))

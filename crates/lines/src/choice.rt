@@ -1,8 +1,7 @@
 // Words of which a line has one or another.
 ghost use Rattle.std.specs.Prelude.{◌≡◌};
-ghost use Rattle.lines.specs.Written.{subject_of, happened_of, cut_off_of, form_of, verb_of, kind_of};
+ghost use Rattle.lines.specs.Fields.{verb_of, kind_of, form_of, stepped_of, side_of, subject_of, happened_of};
 
-use crate::word::Word;
 use words::read::is;
 
 // What a sheet is of.
@@ -17,20 +16,6 @@ pub(crate) enum Subject {
 pub(crate) enum Happened {
     Fail,
     Late,
-}
-
-// Whether a match came after the matching day's cut-off.
-#[derive(Clone, Copy)]
-pub(crate) struct CutOff {
-    pub(crate) passed: bool,
-}
-
-// What a source is made of: its base, or a layer over one.
-#[derive(Clone, Copy)]
-pub(crate) enum Form {
-    Plain,
-    Steps,
-    Carry,
 }
 
 // The first words of the lines that are calls.
@@ -51,63 +36,49 @@ pub(crate) enum Kind {
     Call(Verb),
 }
 
-impl Word for Subject {
-    ghost written = { subject_of };
-
-    fn of_word(word: &[u8]) -> Option<Subject> {
-        if is(word, b"security") {
-            return Some(Subject::Security);
-        }
-        if is(word, b"currency") {
-            return Some(Subject::Currency);
-        }
-        None
-    }
+// What a source is made of: its base, or a layer over one.
+#[derive(Clone, Copy)]
+pub(crate) enum Form {
+    Plain,
+    Steps,
+    Carry,
 }
 
-impl Word for Happened {
-    ghost written = { happened_of };
-
-    fn of_word(word: &[u8]) -> Option<Happened> {
-        if is(word, b"fail") {
-            return Some(Happened::Fail);
-        }
-        if is(word, b"late") {
-            return Some(Happened::Late);
-        }
-        None
+// Whether a match came after the cut-off.
+pub(crate) fn side_of(word: &[u8]) -> Option<bool>
+    ensures value { result ≡ side_of word.now }
+{
+    if is(word, b"before") {
+        return Some(false);
     }
+    if is(word, b"after") {
+        return Some(true);
+    }
+    None
 }
 
-impl Word for CutOff {
-    ghost written = { cut_off_of };
-
-    fn of_word(word: &[u8]) -> Option<CutOff> {
-        if is(word, b"before") {
-            return Some(CutOff { passed: false });
-        }
-        if is(word, b"after") {
-            return Some(CutOff { passed: true });
-        }
-        None
+pub(crate) fn subject_of(word: &[u8]) -> Option<Subject>
+    ensures value { result ≡ subject_of word.now }
+{
+    if is(word, b"security") {
+        return Some(Subject::Security);
     }
+    if is(word, b"currency") {
+        return Some(Subject::Currency);
+    }
+    None
 }
 
-impl Word for Form {
-    ghost written = { form_of };
-
-    fn of_word(word: &[u8]) -> Option<Form> {
-        if is(word, b"plain") {
-            return Some(Form::Plain);
-        }
-        if is(word, b"steps") {
-            return Some(Form::Steps);
-        }
-        if is(word, b"carry") {
-            return Some(Form::Carry);
-        }
-        None
+pub(crate) fn happened_of(word: &[u8]) -> Option<Happened>
+    ensures value { result ≡ happened_of word.now }
+{
+    if is(word, b"fail") {
+        return Some(Happened::Fail);
     }
+    if is(word, b"late") {
+        return Some(Happened::Late);
+    }
+    None
 }
 
 fn verb_of(word: &[u8]) -> Option<Verb>
@@ -142,4 +113,32 @@ pub(crate) fn kind_of(word: &[u8]) -> Option<Kind>
     }
     let verb = verb_of(word)?;
     Some(Kind::Call(verb))
+}
+
+pub(crate) fn form_of(word: &[u8]) -> Option<Form>
+    ensures value { result ≡ form_of word.now }
+{
+    if is(word, b"plain") {
+        return Some(Form::Plain);
+    }
+    if is(word, b"steps") {
+        return Some(Form::Steps);
+    }
+    if is(word, b"carry") {
+        return Some(Form::Carry);
+    }
+    None
+}
+
+// Whether a base under a layer is kept in steps.
+pub(crate) fn stepped_of(word: &[u8]) -> Option<bool>
+    ensures value { result ≡ stepped_of word.now }
+{
+    if is(word, b"plain") {
+        return Some(false);
+    }
+    if is(word, b"steps") {
+        return Some(true);
+    }
+    None
 }

@@ -1,6 +1,6 @@
 // What a line was expected to have at the place where it cannot be read on.
 ghost use Rattle.std.specs.Prelude.{◌≡◌};
-ghost use Rattle.lines.specs.Written.{text_of};
+ghost use Rattle.lines.specs.Fields.{text_of};
 
 use std::fmt;
 
@@ -50,7 +50,7 @@ pub enum Expected {
     Quantity,
     Cash,
     Reason,
-    CutOff,
+    Side,
     Time,
     End,
     SomeSource,
@@ -108,7 +108,7 @@ impl Expected {
             Expected::Quantity => "a quantity up to 18446744073709551615",
             Expected::Cash => "cash with two decimals",
             Expected::Reason => "a reason up to 255",
-            Expected::CutOff => "before or after",
+            Expected::Side => "before or after",
             Expected::Time => "a time up to 4294967295",
             Expected::End => "the end of the line",
             Expected::SomeSource => "a source line in the journal, since it has calls",

@@ -1,6 +1,4 @@
 // What the lines of a journal say: its settings, and its calls.
-use words::scan::Words;
-
 #[derive(Clone, Copy, PartialEq, Eq)]
 pub struct Trade {
     pub instruction: u32,
@@ -60,6 +58,13 @@ pub enum Call {
     Quote(Quote),
 }
 
+// The days from the first to the last, by their numbers.
+#[derive(Clone, Copy)]
+pub struct Span {
+    pub first: u16,
+    pub last: u16,
+}
+
 // Where sheets are kept: rows of their own, or steps from day to day.
 #[derive(Clone, Copy, PartialEq, Eq)]
 pub enum Base {
@@ -77,11 +82,11 @@ pub struct Source {
     pub base: Base,
 }
 
-// A line that is a list still has its words: they are read by whoever keeps them.
+// The opted depositories go by their places: 10 has the place 0.
 #[derive(Drop)]
-pub enum Line<'a> {
-    Business(Words<'a>),
-    Opted(Words<'a>),
+pub enum Line {
+    Business(Vec<Span>),
+    Opted(Vec<u8>),
     Source(Source),
     Call(Call),
 }

@@ -5,57 +5,57 @@ ghost use Rattle.lines.specs.Settings as settings;
 
 use crate::choice::Form;
 use crate::expected::Expected;
-use crate::field::field;
+use crate::field;
 use crate::said::{Base, Source};
-use crate::word::Rows;
 use words::scan::Words;
+
+const MOST_ROWS: u64 = 1_000_000;
+
+fn rows(words: &mut Words<'_>) -> Result<usize, Expected>
+    ensures cases { Reads settings.rows (left words.old) result (left words.new) }
+{
+    let number = field::number64(words, MOST_ROWS, Expected::Rows)?;
+    Ok(number as usize)
+}
 
 fn plain(words: &mut Words<'_>) -> Result<Base, Expected>
     ensures cases { Reads settings.plain (left words.old) result (left words.new) }
 {
-    let securities = field::<Rows>(words, Expected::Rows)?;
-    let currencies = field::<Rows>(words, Expected::Rows)?;
+    let securities = rows(words)?;
+    let currencies = rows(words)?;
     Ok(Base::Plain {
-        securities: securities.count,
-        currencies: currencies.count,
+        securities,
+        currencies,
     })
 }
 
-// What a source rests on; a layer is not a base.
-fn base(words: &mut Words<'_>, form: Form) -> Result<Base, Expected>
-    ensures cases { Reads (settings.base form) (left words.old) result (left words.new) }
+fn base(words: &mut Words<'_>) -> Result<Base, Expected>
+    ensures cases { Reads settings.base (left words.old) result (left words.new) }
 {
-    match form {
-        Form::Plain => plain(words),
-        Form::Steps => Ok(Base::Steps),
-        Form::Carry => Err(Expected::Base),
+    if field::stepped(words)? {
+        return Ok(Base::Steps);
     }
+    plain(words)
 }
 
 fn carry(words: &mut Words<'_>) -> Result<Source, Expected>
     ensures cases { Reads settings.carry (left words.old) result (left words.new) }
 {
-    let reach = field::<u8>(words, Expected::Reach)?;
-    let form = field::<Form>(words, Expected::Base)?;
-    let base = base(words, form)?;
+    let reach = field::number8(words, Expected::Reach)?;
+    let base = base(words)?;
     Ok(Source {
         reach: Some(reach),
         base,
     })
 }
 
-fn bare(words: &mut Words<'_>, form: Form) -> Result<Source, Expected>
-    ensures cases { Reads (settings.bare form) (left words.old) result (left words.new) }
-{
-    let base = base(words, form)?;
-    Ok(Source { reach: None, base })
-}
-
 pub(crate) fn source(words: &mut Words<'_>) -> Result<Source, Expected>
     ensures cases { Reads settings.source (left words.old) result (left words.new) }
 {
-    match field::<Form>(words, Expected::Source)? {
-        Form::Carry => carry(words),
-        form => bare(words, form),
-    }
+    let base = match field::form(words)? {
+        Form::Plain => plain(words)?,
+        Form::Steps => Base::Steps,
+        Form::Carry => return carry(words),
+    };
+    Ok(Source { reach: None, base })
 }

@@ -5,9 +5,9 @@ use crate::help::HELP;
 use calculation::charge::{Charge, Charges};
 use calculation::charges::charges;
 use carry::layer::Carry;
-use journal::reader::Reader;
-use journal::said::{Journal, Numbered, Span};
-use lines::said::{Base, Call, Event, Quote};
+use journal::read::journal_of;
+use journal::said::{Journal, Numbered};
+use lines::said::{Base, Call, Event, Quote, Span};
 use plain_rows::plain::PlainRows;
 use plain_rows::rows::Row;
 use reference::entry::{file_currency, file_security};
@@ -23,7 +23,6 @@ use shows::Refusal;
 use std::io::{BufWriter, Read, Write};
 use std::{env, fs, io};
 use steps::entries::Steps;
-use wording::Meaning;
 
 // The program ends with status 1; what is wrong is on the standard error.
 #[derive(Clone, Copy)]
@@ -48,17 +47,14 @@ fn reaches<W: Write>(out: &mut W, line: usize, answer: Result<Day, Fault>) -> io
 
 fn refused<W: Write>(out: &mut W, line: usize, fault: Fault) -> io::Result<()> {
     let refusal = Refusal(fault);
-    let meaning = Meaning(fault);
-    writeln!(out, "{line} {refusal} # {meaning}")
+    writeln!(out, "{line} {refusal}")
 }
 
 fn security<W: Write>(out: &mut W, line: usize, answer: Option<SecuritySheet>) -> io::Result<()> {
     let Some(sheet) = answer else {
         return writeln!(out, "{line} none");
     };
-    let price = shows::Price {
-        units: sheet.price as u64,
-    };
+    let price = shows::Price(sheet.price as u64);
     let currency = shows::Currency(sheet.currency as u64);
     let class = sheet.class.number();
     writeln!(out, "{line} sheet {price} {currency} {class}")
@@ -68,12 +64,8 @@ fn currency<W: Write>(out: &mut W, line: usize, answer: Option<CurrencySheet>) -
     let Some(sheet) = answer else {
         return writeln!(out, "{line} none");
     };
-    let rate = shows::Rate {
-        units: sheet.rate as u64,
-    };
-    let value = shows::Value {
-        units: sheet.value as u64,
-    };
+    let rate = shows::Rate(sheet.rate as u64);
+    let value = shows::Value(sheet.value as u64);
     writeln!(out, "{line} sheet {rate} {value}")
 }
 
@@ -81,9 +73,7 @@ fn charged<W: Write>(out: &mut W, line: usize, charge: Charge) -> io::Result<()>
     let failing = charge.failing;
     let other = charge.other;
     let currency = shows::Currency(charge.currency as u64);
-    let amount = shows::Money {
-        units: charge.amount,
-    };
+    let amount = shows::Money(charge.amount);
     writeln!(
         out,
         "{line} charge {failing} to {other} {currency} {amount}"
@@ -262,11 +252,7 @@ fn unread(rt: &HostRuntime, path: &Option<String>, why: io::Error) -> Stop {
 }
 
 fn run(rt: &HostRuntime, text: &[u8]) -> Result<(), Stop> {
-    let Ok(reader) = Reader::new(rt.alloc(), text) else {
-        let _ = eprintln!(rt; "pugraide: no memory for the journal");
-        return Err(Stop);
-    };
-    match reader.read() {
+    match journal_of(rt.alloc(), text) {
         Ok(journal) => match with_source(rt, &journal) {
             Ok(()) => Ok(()),
             Err(e) => Err(told(rt, e)),
@@ -290,19 +276,10 @@ fn text_of(rt: &HostRuntime, path: &Option<String>) -> io::Result<Vec<u8>> {
     }
 }
 
-// The word of the command line, if it has one: a journal is one file.
-fn word_of(rt: &HostRuntime) -> Result<Option<String>, Stop> {
-    let mut args = match env::args(rt) {
-        Ok(args) => args,
-        Err(e) => return Err(told(rt, e)),
-    };
+fn first_word(rt: &HostRuntime) -> io::Result<Option<String>> {
+    let mut args = env::args(rt)?;
     let _ = args.next();
-    let word = args.next();
-    if args.next().is_some() {
-        let _ = eprintln!(rt; "pugraide: expected one journal; pugraide --help says more");
-        return Err(Stop);
-    }
-    Ok(word)
+    Ok(args.next())
 }
 
 fn asks_help(word: &Option<String>) -> bool {
@@ -313,7 +290,10 @@ fn asks_help(word: &Option<String>) -> bool {
 }
 
 fn main(rt: HostRuntime) -> Result<(), Stop> {
-    let word = word_of(&rt)?;
+    let word = match first_word(&rt) {
+        Ok(word) => word,
+        Err(e) => return Err(told(&rt, e)),
+    };
     if asks_help(&word) {
         let _ = print!(rt; "{HELP}");
         return Ok(());

@@ -6,10 +6,10 @@ use Rattle.calculation.specs.declared.charge.Charges.{Charges}
 use Rattle.calculation.specs.declared.charge.Charges.TheVariants.{Two}
 use Rattle.reports.specs.declared.report.Side.TheVariants.{Deliverer, Receiver}
 use Rattle.reports.specs.Days.{days_between}
-use Rattle.amounts.specs.Steps.{Steps, gives, ◌>>=◌}
+use Rattle.calculation.specs.Steps.{Steps, gives, ◌>>=◌}
 use Rattle.reports.specs.Terms.{terms_of}
 use Rattle.calculation.specs.Charging.{charging_side}
-use Rattle.amounts.proofs.Binding.{then_ok, then_err}
+use Rattle.calculation.proofs.Binding.{then_ok, then_err}
 use Rattle.calculation.proofs.charges.charge_both.Goals as goal
 
 pub returns-in-err-a : goal.returns-in-err-a

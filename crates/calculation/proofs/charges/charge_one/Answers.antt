@@ -3,10 +3,10 @@ use Rattle.std.proofs.Common.{refl}
 use Rattle.std.proofs.lemmas.Result.{err_from_is_err_and}
 use Rattle.calculation.specs.declared.charge.Charges.TheVariants.{One}
 use Rattle.reports.specs.Days.{days_between}
-use Rattle.amounts.specs.Steps.{gives}
+use Rattle.calculation.specs.Steps.{gives}
 use Rattle.reports.specs.Terms.{terms_of}
 use Rattle.calculation.specs.Charging.{charging_side}
-use Rattle.amounts.proofs.Binding.{then_ok, then_err}
+use Rattle.calculation.proofs.Binding.{then_ok, then_err}
 use Rattle.calculation.proofs.charges.charge_one.Goals as goal
 
 pub returns-in-err-a : goal.returns-in-err-a

@@ -2,11 +2,11 @@ use Rattle.reference.specs.Meaning.{answers}
 use Rattle.std.proofs.Common.{Ok, ap}
 use Rattle.std.proofs.lemmas.Result.{err_from_is_err_and}
 use Rattle.reports.specs.Days.{days_between}
-use Rattle.amounts.specs.Steps.{gives}
+use Rattle.calculation.specs.Steps.{gives}
 use Rattle.reports.specs.Terms.{terms_of}
 use Rattle.calculation.specs.Penalties.{penalty}
 use Rattle.calculation.specs.Charging.{charge_of}
-use Rattle.amounts.proofs.Binding.{then_ok, then_err}
+use Rattle.calculation.proofs.Binding.{then_ok, then_err}
 use Rattle.calculation.proofs.charges.charge_side.Goals as goal
 
 pub returns-in-err-f : goal.returns-in-err-f

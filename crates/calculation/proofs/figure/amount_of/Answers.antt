@@ -2,7 +2,7 @@ use Rattle.std.proofs.Common.{arith}
 use Rattle.std.proofs.lemmas.Result.{err_from_is_err_and}
 use Rattle.reference.specs.Meaning.{answers}
 use Rattle.reports.specs.Terms.{terms_of}
-use Rattle.amounts.specs.Parts.{day_of}
+use Rattle.calculation.specs.Penalties.{day_of}
 use Rattle.calculation.proofs.Sums.{sum_none, sum_more, sum_stop, sum_all}
 use Rattle.calculation.proofs.figure.amount_of.Goals as goal
 

@@ -1,8 +1,7 @@
 use Rattle.std.proofs.Common.{◌≡◌, ◌*◌, ◌^◌, ◌≤◌}
 use Rattle.reference.specs.Meaning.{answers}
 use Rattle.reports.specs.Terms.{terms_of}
-use Rattle.amounts.specs.Parts.{day_of}
-use Rattle.calculation.specs.Penalties.{plus}
+use Rattle.calculation.specs.Penalties.{plus, day_of}
 use Rattle.calculation.proofs.Sums.{rest}
 use Rattle.calculation.proofs.figure.amount_of.Given as goal
 

@@ -2,7 +2,7 @@ use Rattle.std.proofs.Common.{cond, Some, None, ap, ◌∙◌}
 use Rattle.std.specs.Str.{bytes_eq}
 use Rattle.words.specs.Words.{left}
 use Rattle.lines.specs.declared.expected.Expected.TheVariants.{Word}
-use Rattle.lines.specs.Written.{word_of}
+use Rattle.lines.specs.Fields.{word_of}
 use Rattle.lines.proofs.Fields.{field_none, field_at}
 use Rattle.lines.proofs.field.keyword.Goals as goal
 

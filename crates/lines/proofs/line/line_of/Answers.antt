@@ -1,7 +1,7 @@
 use Rattle.std.proofs.Common.{Some, None, ap, ◌∙◌}
 use Rattle.words.specs.Words.{left}
-use Rattle.lines.specs.Lines.{mapped}
-use Rattle.lines.proofs.Lines.{line_none, line_at}
+use Rattle.lines.specs.Lines.{line_for, mapped}
+use Rattle.lines.proofs.Lines.{line_none, line_at, told_err}
 use Rattle.lines.proofs.line.line_of.Goals as goal
 
 pub returns-in-default : goal.returns-in-default
@@ -26,6 +26,7 @@ pub returns-in-Err : goal.returns-in-Err
 returns-in-Err c =
     record {
       cases =
-          line_at c.args.text.now (left c.new-words.result) c.in-Some.first.now (left c.next-word.new.self) (Some c.in-Some-kind-of.kind) c.new-words.ensures.value c.in-Some.ensures.value c.next-word.ensures.after c.in-Some-kind-of.ensures.value
-          ∙ ap (λ p. mapped p Some) c.in-Err.ensures.cases;
+          told_err c.in-Err.e (line_for c.in-Some-kind-of.kind (left c.next-word.new.self)) _
+          (line_at c.args.text.now (left c.new-words.result) c.in-Some.first.now (left c.next-word.new.self) (Some c.in-Some-kind-of.kind) c.new-words.ensures.value c.in-Some.ensures.value c.next-word.ensures.after c.in-Some-kind-of.ensures.value)
+          c.in-Err.ensures.cases;
     }

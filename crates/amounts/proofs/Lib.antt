@@ -1,3 +1,0 @@
-mod Rounds
-pub mod Binding
-mod DaySteps

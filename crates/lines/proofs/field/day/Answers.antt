@@ -1,0 +1,14 @@
+use Rattle.words.specs.Words.{left}
+use Rattle.words.specs.Numbers.{day_of}
+use Rattle.lines.specs.declared.expected.Expected.TheVariants.{Day}
+use Rattle.lines.proofs.Fields.{field_none, field_some}
+use Rattle.lines.proofs.field.day.Goals as goal
+
+pub returns-in-default : goal.returns-in-default
+returns-in-default c = record { cases = field_none day_of Day (left c.args.words.now) c.in-default.ensures.value }
+
+pub returns : goal.returns
+returns c =
+    record {
+      cases = field_some day_of Day (left c.args.words.now) c.in-Some.word.now _ c.day-of.result _ c.in-Some.ensures.value c.next-word.ensures.after c.day-of.ensures.value c.ok-or.ensures.value;
+    }

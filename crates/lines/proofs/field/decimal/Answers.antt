@@ -1,0 +1,13 @@
+use Rattle.words.specs.Words.{left}
+use Rattle.words.specs.Numbers.{decimal_of}
+use Rattle.lines.proofs.Fields.{field_none, field_some}
+use Rattle.lines.proofs.field.decimal.Goals as goal
+
+pub returns-in-default : goal.returns-in-default
+returns-in-default c = record { cases = field_none (decimal_of c.args.places) c.args.expected (left c.args.words.now) c.in-default.ensures.value }
+
+pub returns : goal.returns
+returns c =
+    record {
+      cases = field_some (decimal_of c.args.places) c.args.expected (left c.args.words.now) c.in-Some.word.now _ c.decimal-of.result _ c.in-Some.ensures.value c.next-word.ensures.after c.decimal-of.ensures.value c.ok-or.ensures.value;
+    }

@@ -1,0 +1,14 @@
+use Rattle.words.specs.Words.{left}
+use Rattle.lines.specs.Fields.{form_of}
+use Rattle.lines.specs.declared.expected.Expected.TheVariants.{Source}
+use Rattle.lines.proofs.Fields.{field_none, field_some}
+use Rattle.lines.proofs.field.form.Goals as goal
+
+pub returns-in-default : goal.returns-in-default
+returns-in-default c = record { cases = field_none form_of Source (left c.args.words.now) c.in-default.ensures.value }
+
+pub returns : goal.returns
+returns c =
+    record {
+      cases = field_some form_of Source (left c.args.words.now) c.in-Some.word.now _ c.form-of.result _ c.in-Some.ensures.value c.next-word.ensures.after c.form-of.ensures.value c.ok-or.ensures.value;
+    }

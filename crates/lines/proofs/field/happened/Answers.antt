@@ -1,0 +1,14 @@
+use Rattle.words.specs.Words.{left}
+use Rattle.lines.specs.Fields.{happened_of}
+use Rattle.lines.specs.declared.expected.Expected.TheVariants.{Event}
+use Rattle.lines.proofs.Fields.{field_none, field_some}
+use Rattle.lines.proofs.field.happened.Goals as goal
+
+pub returns-in-default : goal.returns-in-default
+returns-in-default c = record { cases = field_none happened_of Event (left c.args.words.now) c.in-default.ensures.value }
+
+pub returns : goal.returns
+returns c =
+    record {
+      cases = field_some happened_of Event (left c.args.words.now) c.in-Some.word.now _ c.happened-of.result _ c.in-Some.ensures.value c.next-word.ensures.after c.happened-of.ensures.value c.ok-or.ensures.value;
+    }

@@ -1,0 +1,14 @@
+use Rattle.words.specs.Words.{left}
+use Rattle.lines.specs.Fields.{side_of}
+use Rattle.lines.specs.declared.expected.Expected.TheVariants.{Side}
+use Rattle.lines.proofs.Fields.{field_none, field_some}
+use Rattle.lines.proofs.field.side.Goals as goal
+
+pub returns-in-default : goal.returns-in-default
+returns-in-default c = record { cases = field_none side_of Side (left c.args.words.now) c.in-default.ensures.value }
+
+pub returns : goal.returns
+returns c =
+    record {
+      cases = field_some side_of Side (left c.args.words.now) c.in-Some.word.now _ c.side-of.result _ c.in-Some.ensures.value c.next-word.ensures.after c.side-of.ensures.value c.ok-or.ensures.value;
+    }
