@@ -1,4 +1,6 @@
 // What a report is charged: who pays whom, in which currency and how much.
+#![tactic(auto)]
+
 pub mod charge;
 pub mod charges;
 mod conversion;

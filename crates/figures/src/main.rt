@@ -1,4 +1,6 @@
 // Works through figures that are known by hand, and prints each.
+#![tactic(auto)]
+
 use calculation::charge::{Charge, Charges};
 use calculation::charges::charges;
 use carry::layer::Carry;

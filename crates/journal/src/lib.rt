@@ -1,3 +1,5 @@
 // A whole journal, read from its text.
+#![tactic(auto)]
+
 pub mod read;
 pub mod said;

@@ -1,4 +1,6 @@
 // The tests of `journal`, in a crate of their own: a crate with tests is proved twice.
+#![tactic(auto)]
+
 #[cfg(test)]
 mod tests {
     use journal::read::journal_of;

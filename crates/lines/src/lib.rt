@@ -1,4 +1,6 @@
 // The lines of a journal: what each says, or what was expected where it cannot be read on.
+#![tactic(auto)]
+
 mod call;
 mod choice;
 pub mod expected;

@@ -1,4 +1,6 @@
 // Reads a journal, carries out its lines one after another, and prints each answer.
+#![tactic(auto)]
+
 mod help;
 
 use crate::help::HELP;

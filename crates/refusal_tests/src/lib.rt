@@ -1,4 +1,6 @@
 // Tests of each refusal at both sides of its limit, in a crate of their own: a crate with tests is proved twice.
+#![tactic(auto)]
+
 #[cfg(test)]
 mod tests {
     use calculation::charges::charges;

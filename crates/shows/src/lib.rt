@@ -1,4 +1,6 @@
 // How days, prices, money, rates, euro values, currencies and refusals are printed.
+#![tactic(auto)]
+
 use sheets::fault::{Fault, Rule};
 use std::fmt;
 use std::fmt::InlineText;
