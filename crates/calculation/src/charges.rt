@@ -39,7 +39,7 @@ fn charge_side<S: Source>(
     trade: Trade,
     side: Side,
 ) -> Result<Charge, Fault>
-    ensures value { result ≡ result_of (answers (meaning source.now)) (charging_side opted.now (terms_of trade) side (days_between calendar.now.business trade.span.from trade.span.end)) }
+    ensures value { result ≡ result_of (answers (S.meaning source.now)) (charging_side opted.now (terms_of trade) side (days_between calendar.now.business trade.span.from trade.span.end)) }
 {
     let f = figure_of(source, calendar, opted, trade, side)?;
     Ok(charge_of(trade, side, f))
@@ -51,7 +51,7 @@ fn charge_both<S: Source>(
     opted: &[bool; 90],
     trade: Trade,
 ) -> Result<Charges, Fault>
-    ensures value { result ≡ result_of (answers (meaning source.now)) (charging opted.now (terms_of trade) Failing.Both (days_between calendar.now.business trade.span.from trade.span.end)) }
+    ensures value { result ≡ result_of (answers (S.meaning source.now)) (charging opted.now (terms_of trade) Failing.Both (days_between calendar.now.business trade.span.from trade.span.end)) }
 {
     let a = charge_side(source, calendar, opted, trade, Side::Deliverer)?;
     let b = charge_side(source, calendar, opted, trade, Side::Receiver)?;
@@ -65,7 +65,7 @@ fn charge_one<S: Source>(
     trade: Trade,
     side: Side,
 ) -> Result<Charges, Fault>
-    ensures value { result ≡ result_of (answers (meaning source.now)) (charging_one opted.now (terms_of trade) side (days_between calendar.now.business trade.span.from trade.span.end)) }
+    ensures value { result ≡ result_of (answers (S.meaning source.now)) (charging_one opted.now (terms_of trade) side (days_between calendar.now.business trade.span.from trade.span.end)) }
 {
     let a = charge_side(source, calendar, opted, trade, side)?;
     Ok(Charges::One(a))
@@ -78,7 +78,7 @@ fn charge<S: Source>(
     opted: &[bool; 90],
     trade: Trade,
 ) -> Result<Charges, Fault>
-    ensures value { result ≡ result_of (answers (meaning source.now)) (charging opted.now (terms_of trade) trade.span.failing (days_between calendar.now.business trade.span.from trade.span.end)) }
+    ensures value { result ≡ result_of (answers (S.meaning source.now)) (charging opted.now (terms_of trade) trade.span.failing (days_between calendar.now.business trade.span.from trade.span.end)) }
 {
     match trade.span.failing {
         Failing::OnlyDeliverer => charge_one(source, calendar, opted, trade, Side::Deliverer),
@@ -93,7 +93,7 @@ fn checked_charges<S: Source>(
     opted: &[bool; 90],
     report: Report,
 ) -> Result<Charges, Fault>
-    ensures value { result ≡ charges_of calendar.now.business opted.now (answers (meaning source.now)) report }
+    ensures value { result ≡ charges_of calendar.now.business opted.now (answers (S.meaning source.now)) report }
 {
     let trade = check(calendar, report)?;
     charge(source, calendar, opted, trade)
@@ -106,8 +106,8 @@ pub fn charges<S: Source>(
     opted: &[bool; 90],
     report: Report,
 ) -> Result<Charges, Fault>
-    ensures value { result ≡ charges_of calendar.now.business opted.now (answers (meaning source.now)) report }
-    ensures reads { DependsOnReads calendar.now.business opted.now (answers (meaning source.now)) report result }
+    ensures value { result ≡ charges_of calendar.now.business opted.now (answers (S.meaning source.now)) report }
+    ensures reads { DependsOnReads calendar.now.business opted.now (answers (S.meaning source.now)) report result }
     ensures figures { Figures }
 {
     checked_charges(source, calendar, opted, report)

@@ -22,7 +22,7 @@ pub(crate) fn sheet_of<S: Source>(
     security: u16,
     day: u16,
 ) -> Result<SecuritySheet, Fault>
-    ensures value { result ≡ result_of (answers (meaning source.now)) (reads_security security day gives) }
+    ensures value { result ≡ result_of (answers (S.meaning source.now)) (reads_security security day gives) }
 {
     match raw::security(source, security, day) {
         Some(s) => Ok(s),
@@ -40,7 +40,7 @@ fn sheet_if<S: Source>(
     currency: u8,
     day: u16,
 ) -> Result<Option<CurrencySheet>, Fault>
-    ensures value { result ≡ result_of (answers (meaning source.now)) (sheet_if needed currency day) }
+    ensures value { result ≡ result_of (answers (S.meaning source.now)) (sheet_if needed currency day) }
 {
     if !needed {
         return Ok(None);
@@ -78,7 +78,7 @@ fn day_of_security<S: Source>(
     currency: u8,
     day: u16,
 ) -> Result<u64, Fault>
-    ensures value { result ≡ result_of (answers (meaning source.now)) (day_of_security (terms_of trade) side currency day) }
+    ensures value { result ≡ result_of (answers (S.meaning source.now)) (day_of_security (terms_of trade) side currency day) }
     ensures bound { IfOk result (λ a. a ≤ 2 * 10 ^ 16) }
 {
     let s = sheet_of(source, trade.security, day)?;
@@ -91,7 +91,7 @@ fn day_of_security<S: Source>(
 }
 
 fn day_of_cash<S: Source>(source: &S, trade: Trade, currency: u8, day: u16) -> Result<u64, Fault>
-    ensures value { result ≡ result_of (answers (meaning source.now)) (day_of_cash (terms_of trade) currency day) }
+    ensures value { result ≡ result_of (answers (S.meaning source.now)) (day_of_cash (terms_of trade) currency day) }
     ensures bound { IfOk result (λ a. a ≤ 2 * 10 ^ 16) }
 {
     match raw::currency(source, currency, day) {
@@ -112,7 +112,7 @@ pub(crate) fn day_of<S: Source>(
     currency: u8,
     day: u16,
 ) -> Result<u64, Fault>
-    ensures value { result ≡ result_of (answers (meaning source.now)) (day_of (terms_of trade) side currency day) }
+    ensures value { result ≡ result_of (answers (S.meaning source.now)) (day_of (terms_of trade) side currency day) }
     ensures bound { IfOk result (λ a. a ≤ 2 * 10 ^ 16) }
 {
     if has_security_part(trade.kind) {

@@ -46,7 +46,7 @@ fn currency_of<S: Source>(
     opted: &[bool; 90],
     trade: Trade,
 ) -> Result<u8, Fault>
-    ensures value { result ≡ result_of (answers (meaning source.now)) (currency_of opted.now (terms_of trade) (days_between calendar.now.business trade.span.from trade.span.end)) }
+    ensures value { result ≡ result_of (answers (S.meaning source.now)) (currency_of opted.now (terms_of trade) (days_between calendar.now.business trade.span.from trade.span.end)) }
 {
     if !is_free(trade.kind) {
         return Ok(trade.currency);
@@ -67,7 +67,7 @@ fn with_day<S: Source>(
     d: u16,
 ) -> Result<u64, Fault>
     requires { (d < 372) × (sum ≤ 2 * 10 ^ 16 * d) }
-    ensures value { result ≡ (if is_business calendar.now.business d then plus sum (result_of (answers (meaning source.now)) (day_of (terms_of trade) side currency d)) else Ok sum) }
+    ensures value { result ≡ (if is_business calendar.now.business d then plus sum (result_of (answers (S.meaning source.now)) (day_of (terms_of trade) side currency d)) else Ok sum) }
     ensures bound { IfOk result (λ a. a ≤ 2 * 10 ^ 16 * (d + 1)) }
 {
     if !calendar.business[d as usize] {
@@ -84,7 +84,7 @@ fn amount_of<S: Source>(
     side: Side,
     currency: u8,
 ) -> Result<u64, Fault>
-    ensures value { result ≡ result_of (answers (meaning source.now)) (sum_of (day_of (terms_of trade) side currency) (days_between calendar.now.business trade.span.from trade.span.end)) }
+    ensures value { result ≡ result_of (answers (S.meaning source.now)) (sum_of (day_of (terms_of trade) side currency) (days_between calendar.now.business trade.span.from trade.span.end)) }
 {
     let mut sum = 0;
     for d in trade.span.from..trade.span.end {
@@ -101,7 +101,7 @@ pub(crate) fn figure_of<S: Source>(
     trade: Trade,
     side: Side,
 ) -> Result<Figure, Fault>
-    ensures value { result ≡ result_of (answers (meaning source.now)) (penalty opted.now (terms_of trade) side (days_between calendar.now.business trade.span.from trade.span.end)) }
+    ensures value { result ≡ result_of (answers (S.meaning source.now)) (penalty opted.now (terms_of trade) side (days_between calendar.now.business trade.span.from trade.span.end)) }
 {
     let currency = currency_of(source, calendar, opted, trade)?;
     let amount = amount_of(source, calendar, trade, side, currency)?;

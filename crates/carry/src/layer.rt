@@ -33,13 +33,13 @@ impl<S> Carry<S> {
 }
 
 impl<S: Source> Source for Carry<S> {
-    ghost meaning = { λ s. carry_meaning (S.Source.meaning s.below) s.reach };
+    ghost meaning = { λ s. carry_meaning (S.meaning s.below) s.reach };
 
-    ghost own = { λ s. S.Source.own s.below };
+    ghost own = { λ s. S.own s.below };
 
     fn security(&self, security: Security, day: Day) -> Option<SecuritySheet>
-        ensures value { result ≡ (carry_meaning (S.Source.meaning self.now.below) self.now.reach).securities.sheet security.number day.number }
-        ensures latest { IsLatest ((S.Source.meaning self.now.below).securities.sheet security.number) self.now.reach day.number result }
+        ensures value { result ≡ (carry_meaning (S.meaning self.now.below) self.now.reach).securities.sheet security.number day.number }
+        ensures latest { IsLatest ((S.meaning self.now.below).securities.sheet security.number) self.now.reach day.number result }
     {
         latest_of(&self.below, security, day, self.reach)
     }
@@ -54,9 +54,9 @@ impl<S: Source> Source for Carry<S> {
         day: Day,
         sheet: SecuritySheet,
     ) -> Result<Day, Fault>
-        ensures entered { SecurityEntered (carry_meaning (S.Source.meaning self.old.below) self.old.reach) (carry_meaning (S.Source.meaning self.new.below) self.new.reach) security.number day.number sheet result }
-        ensures greatest { IfOk result (λ e. Greatest ((S.Source.meaning self.old.below).securities.sheet security.number) self.old.reach ((S.Source.meaning self.old.below).securities.reach security.number day.number sheet) e.number) }
-        ensures after { EnteredBelow (S.Source.meaning self.old.below) (S.Source.meaning self.new.below) security.number day.number sheet result }
+        ensures entered { SecurityEntered (carry_meaning (S.meaning self.old.below) self.old.reach) (carry_meaning (S.meaning self.new.below) self.new.reach) security.number day.number sheet result }
+        ensures greatest { IfOk result (λ e. Greatest ((S.meaning self.old.below).securities.sheet security.number) self.old.reach ((S.meaning self.old.below).securities.reach security.number day.number sheet) e.number) }
+        ensures after { EnteredBelow (S.meaning self.old.below) (S.meaning self.new.below) security.number day.number sheet result }
         ensures same { self.new.reach ≡ self.old.reach }
     {
         let e = self.below.enter_security(security, day, sheet)?;
@@ -64,8 +64,8 @@ impl<S: Source> Source for Carry<S> {
     }
 
     fn enter_currency(&mut self, day: Day, sheet: CurrencySheet) -> Result<Day, Fault>
-        ensures entered { CurrencyEntered (carry_meaning (S.Source.meaning self.old.below) self.old.reach) (carry_meaning (S.Source.meaning self.new.below) self.new.reach) day.number sheet result }
-        ensures after { CurrencyEntered (S.Source.meaning self.old.below) (S.Source.meaning self.new.below) day.number sheet result }
+        ensures entered { CurrencyEntered (carry_meaning (S.meaning self.old.below) self.old.reach) (carry_meaning (S.meaning self.new.below) self.new.reach) day.number sheet result }
+        ensures after { CurrencyEntered (S.meaning self.old.below) (S.meaning self.new.below) day.number sheet result }
         ensures same { self.new.reach ≡ self.old.reach }
     {
         self.below.enter_currency(day, sheet)
@@ -88,7 +88,7 @@ fn latest_of<S: Source>(
     day: Day,
     reach: u8,
 ) -> Option<SecuritySheet>
-    ensures value { result ≡ latest ((meaning source.now).securities.sheet security.number) reach day.number }
+    ensures value { result ≡ latest ((S.meaning source.now).securities.sheet security.number) reach day.number }
 {
     let mut n = reach;
     let mut d = day;
@@ -104,7 +104,7 @@ fn latest_of<S: Source>(
 
 // The day after e, if it is in the year and has no sheet.
 fn silent_next<S: Source>(source: &S, security: Security, e: Day) -> Option<Day>
-    ensures value { MatchOption result (silent ((meaning source.now).securities.sheet security.number) e.number ≡ false) (λ next. (silent ((meaning source.now).securities.sheet security.number) e.number ≡ true) × (next.number ≡ e.number + 1)) }
+    ensures value { MatchOption result (silent ((S.meaning source.now).securities.sheet security.number) e.number ≡ false) (λ next. (silent ((S.meaning source.now).securities.sheet security.number) e.number ≡ true) × (next.number ≡ e.number + 1)) }
 {
     if e.number >= LAST_DAY {
         return None;
@@ -120,7 +120,7 @@ fn silent_next<S: Source>(source: &S, security: Security, e: Day) -> Option<Day>
 
 // The last day of the silence after e, at most reach days on.
 fn spread_of<S: Source>(source: &S, security: Security, e: Day, reach: u8) -> Day
-    ensures value { result.number ≡ spread ((meaning source.now).securities.sheet security.number) reach e.number }
+    ensures value { result.number ≡ spread ((S.meaning source.now).securities.sheet security.number) reach e.number }
 {
     let mut left = reach;
     let mut end = e;

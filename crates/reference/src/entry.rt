@@ -15,7 +15,7 @@ pub fn file_security<S: Source>(
     currency: u8,
     class: u8,
 ) -> Result<Day, Fault>
-    ensures filed { SecurityFiled (meaning source.old) (meaning source.new) security day price currency class result }
+    ensures filed { SecurityFiled (S.meaning source.old) (S.meaning source.new) security day price currency class result }
 {
     let sheet = make::security_sheet(price, currency, class)?;
     raw::enter_security(source, security, day, sheet)
@@ -28,7 +28,7 @@ pub fn file_currency<S: Source>(
     rate: u64,
     value: u64,
 ) -> Result<Day, Fault>
-    ensures filed { CurrencyFiled (meaning source.old) (meaning source.new) currency day rate value result }
+    ensures filed { CurrencyFiled (S.meaning source.old) (S.meaning source.new) currency day rate value result }
 {
     let sheet = make::currency_sheet(currency, rate, value)?;
     raw::enter_currency(source, day, sheet)

@@ -10,7 +10,7 @@ use sheets::sheet::{CurrencySheet, SecuritySheet};
 use sheets::units::{Currency, Day};
 
 pub fn security<S: Source>(source: &S, security: u16, day: u16) -> Option<SecuritySheet>
-    ensures value { result ≡ (answers (meaning source.now)).securities security day }
+    ensures value { result ≡ (answers (S.meaning source.now)).securities security day }
 {
     let security = make::security(Layer::Source, security).ok()?;
     let day = make::day(Layer::Source, day).ok()?;
@@ -18,7 +18,7 @@ pub fn security<S: Source>(source: &S, security: u16, day: u16) -> Option<Securi
 }
 
 pub fn currency<S: Source>(source: &S, currency: u8, day: u16) -> Option<CurrencySheet>
-    ensures value { result ≡ (answers (meaning source.now)).currencies currency day }
+    ensures value { result ≡ (answers (S.meaning source.now)).currencies currency day }
 {
     if currency > LAST_CURRENCY {
         return None;
@@ -33,7 +33,7 @@ pub fn enter_security<S: Source>(
     day: u16,
     sheet: SecuritySheet,
 ) -> Result<Day, Fault>
-    ensures entered { Unless (security_entry_refusal security day) (meaning source.old) (meaning source.new) result (SecurityEntered (meaning source.old) (meaning source.new) security day sheet result) }
+    ensures entered { Unless (security_entry_refusal security day) (S.meaning source.old) (S.meaning source.new) result (SecurityEntered (S.meaning source.old) (S.meaning source.new) security day sheet result) }
 {
     let security = make::security(Layer::Source, security)?;
     let day = make::day(Layer::Source, day)?;
@@ -45,7 +45,7 @@ pub fn enter_currency<S: Source>(
     day: u16,
     sheet: CurrencySheet,
 ) -> Result<Day, Fault>
-    ensures entered { Unless (currency_entry_refusal day) (meaning source.old) (meaning source.new) result (CurrencyEntered (meaning source.old) (meaning source.new) day sheet result) }
+    ensures entered { Unless (currency_entry_refusal day) (S.meaning source.old) (S.meaning source.new) result (CurrencyEntered (S.meaning source.old) (S.meaning source.new) day sheet result) }
 {
     let day = make::day(Layer::Source, day)?;
     source.enter_currency(day, sheet)

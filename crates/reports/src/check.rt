@@ -228,7 +228,7 @@ fn check_security(kind: u8, security: u16) -> Result<(), Fault>
 pub fn check(calendar: &Calendar, report: Report) -> Result<Trade, Fault>
     ensures made { Answers (report_refusal calendar.now.business report) result (TradeOf calendar.now.business report) }
     ensures sides { IfOk result (λ t. WhoFails report.cause t.span.failing) }
-    ensures used { taken result (λ t. UsedDays calendar.now.business report.cause (days_between calendar.now.business t.span.from t.span.end)) }
+    ensures used { IfOk result (λ t. UsedDays calendar.now.business report.cause (days_between calendar.now.business t.span.from t.span.end)) }
 {
     if !parties_fit(report) {
         return Err(refused(Rule::NoSuchParty, report.instruction as u64, 0));

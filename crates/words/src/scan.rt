@@ -73,7 +73,7 @@ impl ByteKind for InLine {
 
 // How many bytes of the kind stand in front.
 fn leading_bytes<K: ByteKind>(bytes: &[u8]) -> usize
-    ensures value { result ≡ prefix_len holds bytes.now }
+    ensures value { result ≡ prefix_len K.holds bytes.now }
     ensures bound { result ≤ length bytes.now }
 {
     for (i, b) in bytes.iter().enumerate() {

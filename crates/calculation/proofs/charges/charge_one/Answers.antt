@@ -9,13 +9,13 @@ use Rattle.calculation.specs.Charging.{charging_side}
 use Rattle.calculation.proofs.Binding.{then_ok, then_err}
 use Rattle.calculation.proofs.charges.charge_one.Goals as goal
 
-pub returns-in-err-a : goal.returns-in-err-a
-returns-in-err-a g c =
-    let p = err_from_is_err_and c.from-residual.result c.from-residual.ensures.1 in
+pub returns-in_err-a : goal.returns-in_err-a
+returns-in_err-a g c =
+    let p = err_from_is_err_and c.from_residual.result c.from_residual.ensures.1 in
     let days = days_between c.args.calendar.now.business c.args.trade.span.from c.args.trade.span.end in
-    record { value = rw (p.1, p.2) (then_err (answers (g.S.Source.meaning c.args.source.now)) (charging_side c.args.opted.now (terms_of c.args.trade) c.args.side days) (λ x. gives (One x)) _ c.in-err-a.ensures.value) }
+    record { value = rw (p.1, p.2) (then_err (answers (g.S.Source.meaning c.args.source.now)) (charging_side c.args.opted.now (terms_of c.args.trade) c.args.side days) (λ x. gives (One x)) _ c.in_err-a.ensures.value) }
 
 pub returns : goal.returns
 returns g c =
     let days = days_between c.args.calendar.now.business c.args.trade.span.from c.args.trade.span.end in
-    record { value = then_ok (answers (g.S.Source.meaning c.args.source.now)) (charging_side c.args.opted.now (terms_of c.args.trade) c.args.side days) (λ x. gives (One x)) c.in-ok-a.a _ c.in-ok-a.ensures.value refl }
+    record { value = then_ok (answers (g.S.Source.meaning c.args.source.now)) (charging_side c.args.opted.now (terms_of c.args.trade) c.args.side days) (λ x. gives (One x)) c.in_ok-a.a _ c.in_ok-a.ensures.value refl }

@@ -12,15 +12,15 @@ loop-d-init g c =
 
 pub loop-d-preserved : goal.loop-d-preserved
 loop-d-preserved g c =
-    (sum_more (answers (g.S.Source.meaning c.args.source.now)) (day_of (terms_of c.args.trade) c.args.side c.args.currency) c.args.calendar.now.business _ c.loop-d.sum c.in-ok-sum.sum c.loop-d.d c.args.trade.span.end c.loop-d-test.true c.in-ok-sum.ensures.value c.loop-d.invariant.0, c.in-ok-sum.ensures.bound)
+    (sum_more (answers (g.S.Source.meaning c.args.source.now)) (day_of (terms_of c.args.trade) c.args.side c.args.currency) c.args.calendar.now.business _ c.loop-d.sum c.in_ok-sum.sum c.loop-d.d c.args.trade.span.end c.loop-d-test.true c.in_ok-sum.ensures.value c.loop-d.invariant.0, c.in_ok-sum.ensures.bound)
 
-pub returns-in-err-sum : goal.returns-in-err-sum
-returns-in-err-sum g c =
-    let e = err_from_is_err_and c.from-residual.result c.from-residual.ensures.1 in
+pub returns-in_err-sum : goal.returns-in_err-sum
+returns-in_err-sum g c =
+    let e = err_from_is_err_and c.from_residual.result c.from_residual.ensures.1 in
     record {
       value =
           rw (e.1, e.2)
-          (sum_stop (answers (g.S.Source.meaning c.args.source.now)) (day_of (terms_of c.args.trade) c.args.side c.args.currency) c.args.calendar.now.business _ c.loop-d.sum c.loop-d.d c.args.trade.span.end _ c.loop-d-test.true c.in-err-sum.ensures.value c.loop-d.invariant.0);
+          (sum_stop (answers (g.S.Source.meaning c.args.source.now)) (day_of (terms_of c.args.trade) c.args.side c.args.currency) c.args.calendar.now.business _ c.loop-d.sum c.loop-d.d c.args.trade.span.end _ c.loop-d-test.true c.in_err-sum.ensures.value c.loop-d.invariant.0);
     }
 
 pub returns : goal.returns

@@ -13,4 +13,4 @@ loop-n-preserved g c =
     let t = (g.S.Source.meaning c.args.source.now).securities.sheet c.args.security.number in
     c.loop-n.invariant
     ∙ latest_back t c.loop-n.n c.loop-n.d.number c.loop-n-test.true (sym c.in-default.ensures.value)
-    ∙ ap (latest t (c.loop-n.n - 1)) (sym c.day-before-d.ensures.value)
+    ∙ ap (latest t (c.loop-n.n - 1)) (sym c.day_before-d.ensures.value)

@@ -7,19 +7,19 @@ use Rattle.journal.proofs.read.line_at.Goals as goal
 pub loop-line-smaller : goal.loop-line-smaller
 loop-line-smaller c =
     let less = line_shorter (lines_left c.loop-line.lines) c.in-Some.line.now c.in-Some.ensures.value in
-    omega (arith, less, ap length c.next-line.ensures.after)
+    omega (arith, less, ap length c.next_line.ensures.after)
 
 pub loop-line-init : goal.loop-line-init
 loop-line-init c = ap (λ t. get_or (lines_of t) (c.args.number - 1) []) c.new-lines.ensures.value
 
 pub loop-line-preserved : goal.loop-line-preserved
 loop-line-preserved c =
-    next_at (lines_left c.loop-line.lines) c.in-Some.line.now (lines_left c.next-line.new.self) c.loop-line.left c.in-Some.ensures.value c.next-line.ensures.after c.if-left-le1.false ∙ c.loop-line.invariant
+    next_at (lines_left c.loop-line.lines) c.in-Some.line.now (lines_left c.next_line.new.self) c.loop-line.left c.in-Some.ensures.value c.next_line.ensures.after c.if-left-le1.false ∙ c.loop-line.invariant
 
 pub returns-then-left-le1 : goal.returns-then-left-le1
 returns-then-left-le1 c =
     record {
-      value = first_at (lines_left c.loop-line.lines) c.in-Some.line.now (lines_left c.next-line.new.self) c.loop-line.left c.in-Some.ensures.value c.next-line.ensures.after c.if-left-le1.true ∙ c.loop-line.invariant;
+      value = first_at (lines_left c.loop-line.lines) c.in-Some.line.now (lines_left c.next_line.new.self) c.loop-line.left c.in-Some.ensures.value c.next_line.ensures.after c.if-left-le1.true ∙ c.loop-line.invariant;
     }
 
 pub returns : goal.returns

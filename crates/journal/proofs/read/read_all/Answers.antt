@@ -8,7 +8,7 @@ use Rattle.journal.proofs.read.read_all.Goals as goal
 pub loop-line-smaller : goal.loop-line-smaller
 loop-line-smaller c =
     let less = line_shorter (lines_left c.loop-line.lines) c.in-Some.line.now c.in-Some.ensures.value in
-    omega (arith, less, ap length c.next-line.ensures.after)
+    omega (arith, less, ap length c.next_line.ensures.after)
 
 pub loop-line-init : goal.loop-line-init
 unfolding all_read
@@ -20,14 +20,14 @@ loop-line-init c = (
 pub loop-line-preserved : goal.loop-line-preserved
 loop-line-preserved c =
     let less = line_shorter (lines_left c.loop-line.lines) c.in-Some.line.now c.in-Some.ensures.value in (
-      omega (arith, less, ap length c.next-line.ensures.after, c.loop-line.invariant.0),
-      read_more (kept_by c.loop-line.journal) (kept_by c.add-line.new.journal) c.loop-line.number (lines_left c.loop-line.lines) c.in-Some.line.now (lines_left c.next-line.new.self) _ c.in-Some.ensures.value c.next-line.ensures.after c.in-Ok.ensures.cases c.loop-line.invariant.1,
+      omega (arith, less, ap length c.next_line.ensures.after, c.loop-line.invariant.0),
+      read_more (kept_by c.loop-line.journal) (kept_by c.add_line.new.journal) c.loop-line.number (lines_left c.loop-line.lines) c.in-Some.line.now (lines_left c.next_line.new.self) _ c.in-Some.ensures.value c.next_line.ensures.after c.in-Ok.ensures.cases c.loop-line.invariant.1,
     )
 
 pub returns-in-Err : goal.returns-in-Err
 returns-in-Err c =
     record {
-      cases = read_stop c.in-Err.e c.not-read.result (kept_by c.loop-line.journal) (kept_by c.add-line.new.journal) c.loop-line.number (lines_left c.loop-line.lines) c.in-Some.line.now (lines_left c.next-line.new.self) _ c.in-Some.ensures.value c.next-line.ensures.after c.in-Err.ensures.cases c.not-read.ensures.cases c.loop-line.invariant.1;
+      cases = read_stop c.in-Err.e c.not_read.result (kept_by c.loop-line.journal) (kept_by c.add_line.new.journal) c.loop-line.number (lines_left c.loop-line.lines) c.in-Some.line.now (lines_left c.next_line.new.self) _ c.in-Some.ensures.value c.next_line.ensures.after c.in-Err.ensures.cases c.not_read.ensures.cases c.loop-line.invariant.1;
     }
 
 pub returns : goal.returns

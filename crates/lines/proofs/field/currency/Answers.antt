@@ -10,5 +10,5 @@ returns-in-default c = record { cases = field_none currency_of Currency (left c.
 pub returns : goal.returns
 returns c =
     record {
-      cases = field_some currency_of Currency (left c.args.words.now) c.in-Some.word.now _ c.currency-of.result _ c.in-Some.ensures.value c.next-word.ensures.after c.currency-of.ensures.value c.ok-or.ensures.value;
+      cases = field_some currency_of Currency (left c.args.words.now) c.in-Some.word.now _ c.currency_of.result _ c.in-Some.ensures.value c.next_word.ensures.after c.currency_of.ensures.value c.ok_or.ensures.value;
     }

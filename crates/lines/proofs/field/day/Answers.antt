@@ -10,5 +10,5 @@ returns-in-default c = record { cases = field_none day_of Day (left c.args.words
 pub returns : goal.returns
 returns c =
     record {
-      cases = field_some day_of Day (left c.args.words.now) c.in-Some.word.now _ c.day-of.result _ c.in-Some.ensures.value c.next-word.ensures.after c.day-of.ensures.value c.ok-or.ensures.value;
+      cases = field_some day_of Day (left c.args.words.now) c.in-Some.word.now _ c.day_of.result _ c.in-Some.ensures.value c.next_word.ensures.after c.day_of.ensures.value c.ok_or.ensures.value;
     }

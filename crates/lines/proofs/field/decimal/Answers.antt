@@ -9,5 +9,5 @@ returns-in-default c = record { cases = field_none (decimal_of c.args.places) c.
 pub returns : goal.returns
 returns c =
     record {
-      cases = field_some (decimal_of c.args.places) c.args.expected (left c.args.words.now) c.in-Some.word.now _ c.decimal-of.result _ c.in-Some.ensures.value c.next-word.ensures.after c.decimal-of.ensures.value c.ok-or.ensures.value;
+      cases = field_some (decimal_of c.args.places) c.args.expected (left c.args.words.now) c.in-Some.word.now _ c.decimal_of.result _ c.in-Some.ensures.value c.next_word.ensures.after c.decimal_of.ensures.value c.ok_or.ensures.value;
     }

@@ -11,4 +11,4 @@ returns-in-Some c =
 pub returns-in-None : goal.returns-in-None
 unfolding end
 returns-in-None c =
-    record { cases = (λ i. end_at (sym c.in-None.ensures.value i) (sym c.next-word.ensures.after i)) }
+    record { cases = (λ i. end_at (sym c.in-None.ensures.value i) (sym c.next_word.ensures.after i)) }

@@ -10,5 +10,5 @@ returns-in-default c = record { cases = field_none form_of Source (left c.args.w
 pub returns : goal.returns
 returns c =
     record {
-      cases = field_some form_of Source (left c.args.words.now) c.in-Some.word.now _ c.form-of.result _ c.in-Some.ensures.value c.next-word.ensures.after c.form-of.ensures.value c.ok-or.ensures.value;
+      cases = field_some form_of Source (left c.args.words.now) c.in-Some.word.now _ c.form_of.result _ c.in-Some.ensures.value c.next_word.ensures.after c.form_of.ensures.value c.ok_or.ensures.value;
     }

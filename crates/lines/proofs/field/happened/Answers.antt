@@ -10,5 +10,5 @@ returns-in-default c = record { cases = field_none happened_of Event (left c.arg
 pub returns : goal.returns
 returns c =
     record {
-      cases = field_some happened_of Event (left c.args.words.now) c.in-Some.word.now _ c.happened-of.result _ c.in-Some.ensures.value c.next-word.ensures.after c.happened-of.ensures.value c.ok-or.ensures.value;
+      cases = field_some happened_of Event (left c.args.words.now) c.in-Some.word.now _ c.happened_of.result _ c.in-Some.ensures.value c.next_word.ensures.after c.happened_of.ensures.value c.ok_or.ensures.value;
     }

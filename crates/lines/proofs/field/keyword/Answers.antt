@@ -14,14 +14,14 @@ returns-in-default c =
 
 pub returns-then-not-is : goal.returns-then-not-is
 returns-then-not-is c =
-    let other = c.if-not-is.ensures.value ∙ ap (bytes_eq c.in-Some.word.now) (c.as-bytes.ensures.value ∙ c.text.ensures.value) in
+    let other = c.if-not-is.ensures.value ∙ ap (bytes_eq c.in-Some.word.now) (c.as_bytes.ensures.value ∙ c.text.ensures.value) in
     record {
-      cases = field_at (word_of c.args.keyword) (Word c.args.keyword) (left c.args.words.now) c.in-Some.word.now _ None c.in-Some.ensures.value c.next-word.ensures.after (ap (λ b. cond b (Some tt) None) other);
+      cases = field_at (word_of c.args.keyword) (Word c.args.keyword) (left c.args.words.now) c.in-Some.word.now _ None c.in-Some.ensures.value c.next_word.ensures.after (ap (λ b. cond b (Some tt) None) other);
     }
 
 pub returns : goal.returns
 returns c =
-    let same = c.if-not-is.ensures.value ∙ ap (bytes_eq c.in-Some.word.now) (c.as-bytes.ensures.value ∙ c.text.ensures.value) in
+    let same = c.if-not-is.ensures.value ∙ ap (bytes_eq c.in-Some.word.now) (c.as_bytes.ensures.value ∙ c.text.ensures.value) in
     record {
-      cases = field_at (word_of c.args.keyword) (Word c.args.keyword) (left c.args.words.now) c.in-Some.word.now _ (Some tt) c.in-Some.ensures.value c.next-word.ensures.after (ap (λ b. cond b (Some tt) None) same);
+      cases = field_at (word_of c.args.keyword) (Word c.args.keyword) (left c.args.words.now) c.in-Some.word.now _ (Some tt) c.in-Some.ensures.value c.next_word.ensures.after (ap (λ b. cond b (Some tt) None) same);
     }

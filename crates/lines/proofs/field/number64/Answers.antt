@@ -10,6 +10,6 @@ returns-in-default c = record { cases = field_none (number_of c.args.limit) c.ar
 pub returns : goal.returns
 returns c =
     record {
-      cases = field_some (number_of c.args.limit) c.args.expected (left c.args.words.now) c.in-Some.word.now _ c.number-of.result _ c.in-Some.ensures.value c.next-word.ensures.after c.number-of.ensures.value c.ok-or.ensures.value;
+      cases = field_some (number_of c.args.limit) c.args.expected (left c.args.words.now) c.in-Some.word.now _ c.number_of.result _ c.in-Some.ensures.value c.next_word.ensures.after c.number_of.ensures.value c.ok_or.ensures.value;
       bound = search rules;
     }

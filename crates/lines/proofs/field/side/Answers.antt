@@ -10,5 +10,5 @@ returns-in-default c = record { cases = field_none side_of Side (left c.args.wor
 pub returns : goal.returns
 returns c =
     record {
-      cases = field_some side_of Side (left c.args.words.now) c.in-Some.word.now _ c.side-of.result _ c.in-Some.ensures.value c.next-word.ensures.after c.side-of.ensures.value c.ok-or.ensures.value;
+      cases = field_some side_of Side (left c.args.words.now) c.in-Some.word.now _ c.side_of.result _ c.in-Some.ensures.value c.next_word.ensures.after c.side_of.ensures.value c.ok_or.ensures.value;
     }

@@ -10,5 +10,5 @@ returns-in-default c = record { cases = field_none stepped_of Base (left c.args.
 pub returns : goal.returns
 returns c =
     record {
-      cases = field_some stepped_of Base (left c.args.words.now) c.in-Some.word.now _ c.stepped-of.result _ c.in-Some.ensures.value c.next-word.ensures.after c.stepped-of.ensures.value c.ok-or.ensures.value;
+      cases = field_some stepped_of Base (left c.args.words.now) c.in-Some.word.now _ c.stepped_of.result _ c.in-Some.ensures.value c.next_word.ensures.after c.stepped_of.ensures.value c.ok_or.ensures.value;
     }

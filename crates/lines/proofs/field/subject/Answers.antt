@@ -10,5 +10,5 @@ returns-in-default c = record { cases = field_none subject_of Subject (left c.ar
 pub returns : goal.returns
 returns c =
     record {
-      cases = field_some subject_of Subject (left c.args.words.now) c.in-Some.word.now _ c.subject-of.result _ c.in-Some.ensures.value c.next-word.ensures.after c.subject-of.ensures.value c.ok-or.ensures.value;
+      cases = field_some subject_of Subject (left c.args.words.now) c.in-Some.word.now _ c.subject_of.result _ c.in-Some.ensures.value c.next_word.ensures.after c.subject_of.ensures.value c.ok_or.ensures.value;
     }

@@ -8,17 +8,17 @@ pub returns-in-default : goal.returns-in-default
 returns-in-default c =
     record { cases = line_none c.args.text.now (left c.new-words.result) c.new-words.ensures.value c.in-default.ensures.value }
 
-pub returns-in-default-kind-of : goal.returns-in-default-kind-of
-returns-in-default-kind-of c =
+pub returns-in-default-kind_of : goal.returns-in-default-kind_of
+returns-in-default-kind_of c =
     record {
-      cases = line_at c.args.text.now (left c.new-words.result) c.in-Some.first.now (left c.next-word.new.self) None c.new-words.ensures.value c.in-Some.ensures.value c.next-word.ensures.after c.in-default-kind-of.ensures.value;
+      cases = line_at c.args.text.now (left c.new-words.result) c.in-Some.first.now (left c.next_word.new.self) None c.new-words.ensures.value c.in-Some.ensures.value c.next_word.ensures.after c.in-default-kind_of.ensures.value;
     }
 
 pub returns-in-Ok : goal.returns-in-Ok
 returns-in-Ok c =
     record {
       cases =
-          line_at c.args.text.now (left c.new-words.result) c.in-Some.first.now (left c.next-word.new.self) (Some c.in-Some-kind-of.kind) c.new-words.ensures.value c.in-Some.ensures.value c.next-word.ensures.after c.in-Some-kind-of.ensures.value
+          line_at c.args.text.now (left c.new-words.result) c.in-Some.first.now (left c.next_word.new.self) (Some c.in-Some-kind_of.kind) c.new-words.ensures.value c.in-Some.ensures.value c.next_word.ensures.after c.in-Some-kind_of.ensures.value
           ∙ ap (λ p. mapped p Some) c.in-Ok.ensures.cases;
     }
 
@@ -26,7 +26,7 @@ pub returns-in-Err : goal.returns-in-Err
 returns-in-Err c =
     record {
       cases =
-          told_err c.in-Err.e (line_for c.in-Some-kind-of.kind (left c.next-word.new.self)) _
-          (line_at c.args.text.now (left c.new-words.result) c.in-Some.first.now (left c.next-word.new.self) (Some c.in-Some-kind-of.kind) c.new-words.ensures.value c.in-Some.ensures.value c.next-word.ensures.after c.in-Some-kind-of.ensures.value)
+          told_err c.in-Err.e (line_for c.in-Some-kind_of.kind (left c.next_word.new.self)) _
+          (line_at c.args.text.now (left c.new-words.result) c.in-Some.first.now (left c.next_word.new.self) (Some c.in-Some-kind_of.kind) c.new-words.ensures.value c.in-Some.ensures.value c.next_word.ensures.after c.in-Some-kind_of.ensures.value)
           c.in-Err.ensures.cases;
     }

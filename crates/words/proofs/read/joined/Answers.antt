@@ -2,12 +2,12 @@ use Rattle.std.proofs.Common.{sym, ap, ◌∙◌}
 use Rattle.words.proofs.Digits.{fits-append, fits_after}
 use Rattle.words.proofs.read.joined.Goals as goal
 
-pub returns-in-err-n : goal.returns-in-err-n
-returns-in-err-n c =
+pub returns-in_err-n : goal.returns-in_err-n
+returns-in_err-n c =
     record {
       value =
-          c.from-residual.ensures
-          ∙ (ap (λ o. fits_after o c.args.part.now) c.in-err-n.ensures.value
+          c.from_residual.ensures
+          ∙ (ap (λ o. fits_after o c.args.part.now) c.in_err-n.ensures.value
           ∙ sym (fits-append 0 c.args.whole.now c.args.part.now));
     }
 
@@ -16,6 +16,6 @@ returns c =
     record {
       value =
           c.digits-2.ensures.value
-          ∙ (ap (λ o. fits_after o c.args.part.now) c.in-ok-n.ensures.value
+          ∙ (ap (λ o. fits_after o c.args.part.now) c.in_ok-n.ensures.value
           ∙ sym (fits-append 0 c.args.whole.now c.args.part.now));
     }

@@ -9,6 +9,6 @@ returns g c =
     let n = c.args.self.now.reach in
     let d = c.args.day.number in
     record {
-      value = c.latest-of.ensures.value;
-      latest = subst (IsLatest t n d) (sym c.latest-of.ensures.value) (latest_latest t n d);
+      value = c.latest_of.ensures.value;
+      latest = subst (IsLatest t n d) (sym c.latest_of.ensures.value) (latest_latest t n d);
     }

@@ -10,6 +10,6 @@ returns c =
     let t = (rows_table own_number c.args.self.now.currencies).sheet c.args.currency.number in
     let d = c.args.day.number in
     record {
-      value = c.step-sheet.ensures.value;
-      latest = subst (IsLatest t whole_year d) (sym c.step-sheet.ensures.value) (latest_latest t whole_year d);
+      value = c.step_sheet.ensures.value;
+      latest = subst (IsLatest t whole_year d) (sym c.step_sheet.ensures.value) (latest_latest t whole_year d);
     }

@@ -7,12 +7,12 @@ use Rattle.steps.proofs.entries.StepsSource.enter_currency.Goals as goal
 
 pub returns : goal.returns
 returns c =
-    let row = c.enter-step.ensures.entered in
+    let row = c.enter_step.ensures.entered in
     let s = c.args.self.now in
     let last = spread ((rows_table own_number s.currencies).sheet c.args.sheet.currency) whole_year c.args.day.number in
     record {
-      entered = steps_currency s.securities s.currencies c.enter-step.new.rows c.args.day.number c.args.sheet c.enter-step.result c.args.day.limit row;
-      greatest = steps_greatest own_number s.currencies c.enter-step.new.rows c.args.sheet.currency c.args.day.number c.args.sheet c.enter-step.result c.args.day.limit row;
-      after = rows_after own_number s.currencies c.enter-step.new.rows c.args.sheet.currency c.args.day.number c.args.sheet last c.enter-step.result row;
+      entered = steps_currency s.securities s.currencies c.enter_step.new.rows c.args.day.number c.args.sheet c.enter_step.result c.args.day.limit row;
+      greatest = steps_greatest own_number s.currencies c.enter_step.new.rows c.args.sheet.currency c.args.day.number c.args.sheet c.enter_step.result c.args.day.limit row;
+      after = rows_after own_number s.currencies c.enter_step.new.rows c.args.sheet.currency c.args.day.number c.args.sheet last c.enter_step.result row;
       same = refl;
     }

@@ -7,12 +7,12 @@ use Rattle.steps.proofs.entries.StepsSource.enter_security.Goals as goal
 
 pub returns : goal.returns
 returns c =
-    let row = c.enter-step.ensures.entered in
+    let row = c.enter_step.ensures.entered in
     let s = c.args.self.now in
     let last = spread ((rows_table any_number s.securities).sheet c.args.security.number) whole_year c.args.day.number in
     record {
-      entered = steps_security s.securities c.enter-step.new.rows s.currencies c.args.security.number c.args.day.number c.args.sheet c.enter-step.result c.args.day.limit row;
-      greatest = steps_greatest any_number s.securities c.enter-step.new.rows c.args.security.number c.args.day.number c.args.sheet c.enter-step.result c.args.day.limit row;
-      after = rows_after any_number s.securities c.enter-step.new.rows c.args.security.number c.args.day.number c.args.sheet last c.enter-step.result row;
+      entered = steps_security s.securities c.enter_step.new.rows s.currencies c.args.security.number c.args.day.number c.args.sheet c.enter_step.result c.args.day.limit row;
+      greatest = steps_greatest any_number s.securities c.enter_step.new.rows c.args.security.number c.args.day.number c.args.sheet c.enter_step.result c.args.day.limit row;
+      after = rows_after any_number s.securities c.enter_step.new.rows c.args.security.number c.args.day.number c.args.sheet last c.enter_step.result row;
       same = refl;
     }
