@@ -79,7 +79,7 @@ impl Item for u8 {
 
 // One word or more, each an item.
 fn items<T: Item>(heap: Global, words: &mut Words<'_>, expected: Expected) -> Result<Vec<T>, Unread>
-    ensures cases { Lists result (listed written expected (left words.old)) }
+    ensures cases { Lists result (listed T.written expected (left words.old)) }
 {
     let mut all = Vec::new(heap);
     while let Some(word) = words.next_word() {

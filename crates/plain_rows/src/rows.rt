@@ -52,7 +52,7 @@ impl Filed for CurrencySheet {
 
 // The row is an entry of the number.
 pub fn is_filed<T: Filed>(row: Row<T>, number: u16) -> bool
-    ensures value { result ≡ filed stands number row }
+    ensures value { result ≡ filed T.stands number row }
 {
     if row.number != number {
         return false;
@@ -64,7 +64,7 @@ pub fn is_filed<T: Filed>(row: Row<T>, number: u16) -> bool
 }
 
 fn is_at<T: Filed>(row: Row<T>, number: u16, day: u16) -> bool
-    ensures value { result ≡ sits stands number day row }
+    ensures value { result ≡ sits T.stands number day row }
 {
     row.day == day && is_filed(row, number)
 }
@@ -77,7 +77,7 @@ fn is_unused<T: Filed>(row: Row<T>) -> bool
 
 // The place of the first row of that number and day, or the number of rows.
 fn place_of<T: Filed>(rows: &[Row<T>], number: u16, day: u16) -> usize
-    ensures value { result ≡ first_place (sits stands number day) rows.now }
+    ensures value { result ≡ first_place (sits T.stands number day) rows.now }
 {
     for i in 0..rows.len() {
         if is_at(rows[i], number, day) {
@@ -101,7 +101,7 @@ fn free_place<T: Filed>(rows: &[Row<T>]) -> usize
 
 // Where an entry of that number and day goes.
 fn entry_place<T: Filed>(rows: &[Row<T>], number: u16, day: u16) -> usize
-    ensures value { result ≡ entry_place stands number day rows.now }
+    ensures value { result ≡ entry_place T.stands number day rows.now }
 {
     let i = place_of(rows, number, day);
     if i < rows.len() {
@@ -112,7 +112,7 @@ fn entry_place<T: Filed>(rows: &[Row<T>], number: u16, day: u16) -> usize
 
 // The sheet of that number and day.
 pub fn row_sheet<T: Filed>(rows: &[Row<T>], number: u16, day: u16) -> Option<T>
-    ensures value { result ≡ (rows_table stands rows.now).sheet number day }
+    ensures value { result ≡ (rows_table T.stands rows.now).sheet number day }
 {
     let i = place_of(rows, number, day);
     if i < rows.len() {
@@ -139,7 +139,7 @@ pub fn enter_row<T: Filed>(
     day: Day,
     sheet: T,
 ) -> Result<Day, Fault>
-    ensures entered { RowEntered stands rows.old rows.new number day.number sheet day.number result }
+    ensures entered { RowEntered T.stands rows.old rows.new number day.number sheet day.number result }
 {
     let i = entry_place(rows, number, day.number);
     if i < rows.len() {

@@ -88,7 +88,7 @@ fn later_of(a: Option<u16>, b: u16) -> Option<u16>
 
 // One turn of last_step.
 fn later<T: Filed>(row: Row<T>, number: u16, day: u16, best: Option<u16>) -> Option<u16>
-    ensures value { result ≡ later_of stands number day row best }
+    ensures value { result ≡ later_of T.stands number day row best }
 {
     if is_filed(row, number) && row.day <= day {
         return later_of(best, row.day);
@@ -98,7 +98,7 @@ fn later<T: Filed>(row: Row<T>, number: u16, day: u16, best: Option<u16>) -> Opt
 
 // The latest day up to `day` of an entry of the number.
 fn last_step<T: Filed>(rows: &[Row<T>], number: u16, day: u16) -> Option<u16>
-    ensures value { LastStep stands rows.now number day result }
+    ensures value { LastStep T.stands rows.now number day result }
 {
     let mut best = None;
     for i in 0..rows.len() {
@@ -109,7 +109,7 @@ fn last_step<T: Filed>(rows: &[Row<T>], number: u16, day: u16) -> Option<u16>
 
 // The sheet of the latest entry up to `day`.
 fn step_sheet<T: Filed>(rows: &[Row<T>], number: u16, day: Day) -> Option<T>
-    ensures value { result ≡ (carried (rows_table stands rows.now) whole_year).sheet number day.number }
+    ensures value { result ≡ (carried (rows_table T.stands rows.now) whole_year).sheet number day.number }
 {
     match last_step(rows, number, day.number) {
         Some(d) => row_sheet(rows, number, d),
@@ -119,7 +119,7 @@ fn step_sheet<T: Filed>(rows: &[Row<T>], number: u16, day: Day) -> Option<T>
 
 // One turn of next_step.
 fn nearer<T: Filed>(row: Row<T>, number: u16, day: u16, end: u16) -> u16
-    ensures value { result ≡ nearer_of stands number day row end }
+    ensures value { result ≡ nearer_of T.stands number day row end }
 {
     if is_filed(row, number) && day < row.day && row.day <= end {
         return row.day - 1;
@@ -129,7 +129,7 @@ fn nearer<T: Filed>(row: Row<T>, number: u16, day: u16, end: u16) -> u16
 
 // The day before the number's next entry after `day`, or the last of the year.
 fn next_step<T: Filed>(rows: &[Row<T>], number: u16, day: Day) -> Day
-    ensures value { NextStep stands rows.now number day.number result.number }
+    ensures value { NextStep T.stands rows.now number day.number result.number }
 {
     let mut end = LAST_DAY;
     for i in 0..rows.len() {
@@ -140,7 +140,7 @@ fn next_step<T: Filed>(rows: &[Row<T>], number: u16, day: Day) -> Day
 
 // The entry reaches to the day before the number's next.
 fn enter_step<T: Filed>(rows: &mut [Row<T>], number: u16, day: Day, sheet: T) -> Result<Day, Fault>
-    ensures entered { RowEntered stands rows.old rows.new number day.number sheet ((carried (rows_table stands rows.old) whole_year).reach number day.number sheet) result }
+    ensures entered { RowEntered T.stands rows.old rows.new number day.number sheet ((carried (rows_table T.stands rows.old) whole_year).reach number day.number sheet) result }
 {
     enter_row(rows, number, day, sheet)?;
     Ok(next_step(rows, number, day))

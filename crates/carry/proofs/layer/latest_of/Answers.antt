@@ -12,5 +12,5 @@ pub loop-n-preserved : goal.loop-n-preserved
 loop-n-preserved g c =
     let t = (g.S.Source.meaning c.args.source.now).securities.sheet c.args.security.number in
     c.loop-n.invariant
-    ∙ latest_back t c.loop-n.n c.loop-n.d.number c.loop-n-test.true (sym c.in-default.ensures.value)
+    ∙ latest_back t c.loop-n.n c.loop-n.d.number c.loop-n-test.true (sym c.in_default.ensures.value)
     ∙ ap (latest t (c.loop-n.n - 1)) (sym c.day_before-d.ensures.value)

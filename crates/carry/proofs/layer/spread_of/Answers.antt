@@ -11,7 +11,7 @@ loop-left-preserved g c =
     ∙ spread_on t c.loop-left.left c.loop-left.end.number c.loop-left-test.true next.0
     ∙ ap (spread t (c.loop-left.left - 1)) (sym next.1)
 
-pub returns-in-default : goal.returns-in-default
-returns-in-default g c =
+pub returns-in_default : goal.returns-in_default
+returns-in_default g c =
     let t = (g.S.Source.meaning c.args.source.now).securities.sheet c.args.security.number in
-    record { value = sym (c.loop-left.invariant ∙ spread_stops t c.loop-left.left c.loop-left.end.number c.in-default.ensures.value) }
+    record { value = sym (c.loop-left.invariant ∙ spread_stops t c.loop-left.left c.loop-left.end.number c.in_default.ensures.value) }

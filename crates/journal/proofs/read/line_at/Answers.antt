@@ -24,4 +24,4 @@ returns-then-left-le1 c =
 
 pub returns : goal.returns
 returns c =
-    record { value = sym (ap (λ l. get_or l (c.loop-line.left - 1) []) (lines_none (lines_left c.loop-line.lines) c.in-default.ensures.value)) ∙ c.loop-line.invariant }
+    record { value = sym (ap (λ l. get_or l (c.loop-line.left - 1) []) (lines_none (lines_left c.loop-line.lines) c.in_default.ensures.value)) ∙ c.loop-line.invariant }

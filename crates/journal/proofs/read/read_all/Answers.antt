@@ -32,4 +32,4 @@ returns-in-Err c =
 
 pub returns : goal.returns
 returns c =
-    record { cases = read_done (kept_by c.loop-line.journal) c.loop-line.number (lines_left c.loop-line.lines) _ c.in-default.ensures.value c.loop-line.invariant.1 }
+    record { cases = read_done (kept_by c.loop-line.journal) c.loop-line.number (lines_left c.loop-line.lines) _ c.in_default.ensures.value c.loop-line.invariant.1 }

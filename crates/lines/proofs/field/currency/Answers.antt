@@ -4,8 +4,8 @@ use Rattle.lines.specs.declared.expected.Expected.TheVariants.{Currency}
 use Rattle.lines.proofs.Fields.{field_none, field_some}
 use Rattle.lines.proofs.field.currency.Goals as goal
 
-pub returns-in-default : goal.returns-in-default
-returns-in-default c = record { cases = field_none currency_of Currency (left c.args.words.now) c.in-default.ensures.value }
+pub returns-in_default : goal.returns-in_default
+returns-in_default c = record { cases = field_none currency_of Currency (left c.args.words.now) c.in_default.ensures.value }
 
 pub returns : goal.returns
 returns c =

@@ -3,8 +3,8 @@ use Rattle.words.specs.Numbers.{decimal_of}
 use Rattle.lines.proofs.Fields.{field_none, field_some}
 use Rattle.lines.proofs.field.decimal.Goals as goal
 
-pub returns-in-default : goal.returns-in-default
-returns-in-default c = record { cases = field_none (decimal_of c.args.places) c.args.expected (left c.args.words.now) c.in-default.ensures.value }
+pub returns-in_default : goal.returns-in_default
+returns-in_default c = record { cases = field_none (decimal_of c.args.places) c.args.expected (left c.args.words.now) c.in_default.ensures.value }
 
 pub returns : goal.returns
 returns c =

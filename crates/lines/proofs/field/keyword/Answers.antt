@@ -6,10 +6,10 @@ use Rattle.lines.specs.Fields.{word_of}
 use Rattle.lines.proofs.Fields.{field_none, field_at}
 use Rattle.lines.proofs.field.keyword.Goals as goal
 
-pub returns-in-default : goal.returns-in-default
-returns-in-default c =
+pub returns-in_default : goal.returns-in_default
+returns-in_default c =
     record {
-      cases = field_none (word_of c.args.keyword) (Word c.args.keyword) (left c.args.words.now) c.in-default.ensures.value;
+      cases = field_none (word_of c.args.keyword) (Word c.args.keyword) (left c.args.words.now) c.in_default.ensures.value;
     }
 
 pub returns-then-not-is : goal.returns-then-not-is

@@ -4,8 +4,8 @@ use Rattle.words.specs.Numbers.{number_of}
 use Rattle.lines.proofs.Fields.{field_none, field_some}
 use Rattle.lines.proofs.field.number64.Goals as goal
 
-pub returns-in-default : goal.returns-in-default
-returns-in-default c = record { cases = field_none (number_of c.args.limit) c.args.expected (left c.args.words.now) c.in-default.ensures.value; bound = tt }
+pub returns-in_default : goal.returns-in_default
+returns-in_default c = record { cases = field_none (number_of c.args.limit) c.args.expected (left c.args.words.now) c.in_default.ensures.value; bound = tt }
 
 pub returns : goal.returns
 returns c =

@@ -4,14 +4,14 @@ use Rattle.lines.specs.Lines.{line_for, mapped}
 use Rattle.lines.proofs.Lines.{line_none, line_at, told_err}
 use Rattle.lines.proofs.line.line_of.Goals as goal
 
-pub returns-in-default : goal.returns-in-default
-returns-in-default c =
-    record { cases = line_none c.args.text.now (left c.new-words.result) c.new-words.ensures.value c.in-default.ensures.value }
+pub returns-in_default : goal.returns-in_default
+returns-in_default c =
+    record { cases = line_none c.args.text.now (left c.new-words.result) c.new-words.ensures.value c.in_default.ensures.value }
 
-pub returns-in-default-kind_of : goal.returns-in-default-kind_of
-returns-in-default-kind_of c =
+pub returns-in_default-kind_of : goal.returns-in_default-kind_of
+returns-in_default-kind_of c =
     record {
-      cases = line_at c.args.text.now (left c.new-words.result) c.in-Some.first.now (left c.next_word.new.self) None c.new-words.ensures.value c.in-Some.ensures.value c.next_word.ensures.after c.in-default-kind_of.ensures.value;
+      cases = line_at c.args.text.now (left c.new-words.result) c.in-Some.first.now (left c.next_word.new.self) None c.new-words.ensures.value c.in-Some.ensures.value c.next_word.ensures.after c.in_default-kind_of.ensures.value;
     }
 
 pub returns-in-Ok : goal.returns-in-Ok
