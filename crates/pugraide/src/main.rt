@@ -23,6 +23,7 @@ use sheets::sheet::{CurrencySheet, SecuritySheet};
 use sheets::units::Day;
 use shows::Refusal;
 use std::io::{BufWriter, Read, Write};
+use std::process::ExitCode;
 use std::{env, fs, io};
 use steps::entries::Steps;
 
@@ -291,17 +292,25 @@ fn asks_help(word: &Option<String>) -> bool {
     }
 }
 
-fn main(rt: HostRuntime) -> Result<(), Stop> {
-    let word = match first_word(&rt) {
+fn start(rt: &HostRuntime) -> Result<(), Stop> {
+    let word = match first_word(rt) {
         Ok(word) => word,
-        Err(e) => return Err(told(&rt, e)),
+        Err(e) => return Err(told(rt, e)),
     };
     if asks_help(&word) {
         let _ = print!(rt; "{HELP}");
         return Ok(());
     }
-    match text_of(&rt, &word) {
-        Ok(text) => run(&rt, text.as_slice()),
-        Err(e) => Err(unread(&rt, &word, e)),
+    match text_of(rt, &word) {
+        Ok(text) => run(rt, text.as_slice()),
+        Err(e) => Err(unread(rt, &word, e)),
+    }
+}
+
+// A returned error would be printed once more, so the status alone is returned.
+fn main(rt: HostRuntime) -> ExitCode {
+    match start(&rt) {
+        Ok(()) => ExitCode::SUCCESS,
+        Err(Stop) => ExitCode::FAILURE,
     }
 }
