@@ -7,7 +7,6 @@ use Rattle.lines.specs.declared.said.Source.{Source}
 use Rattle.lines.specs.declared.said.Call.{Call}
 use Rattle.journal.specs.declared.said.Numbered.{Numbered}
 use Rattle.journal.specs.declared.said.Journal.{Journal}
-use Rattle.journal.specs.declared.read.Malformed.{Malformed}
 use Rattle.journal.specs.declared.read.NotRead.{NotRead}
 use Rattle.journal.specs.declared.read.NotRead.TheVariants as reasons
 use Rattle.lines.specs.declared.unread.Unread.{Unread}

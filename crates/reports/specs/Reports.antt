@@ -1,5 +1,5 @@
 -- What a report must be, which days it uses, and who fails. Assumes nothing.
-use Rattle.std.specs.Prelude.{◌≡◌, ℕ, ◌+◌, ◌-◌, ◌%◌, Bool, cond, not, ◌&&◌, ◌||◌, List, [], ◌∷◌, None, Option, ◌==◌, nat_le, nat_lt}
+use Rattle.std.specs.Prelude.{◌≡◌, ℕ, ◌+◌, ◌%◌, Bool, cond, not, ◌&&◌, ◌||◌, List, [], ◌∷◌, None, Option, ◌==◌, nat_le, nat_lt}
 use Rattle.sheets.specs.declared.fault.Fault.{Fault}
 use Rattle.sheets.specs.declared.fault.Rule.TheVariants.{NoSuchParty, FieldsUnfit, ReasonsUnlawful, NoBusinessDay, NoUsedDay}
 use Rattle.sheets.specs.declared.fault.Layer.TheVariants.{Book}
