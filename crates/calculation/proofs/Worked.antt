@@ -6,8 +6,8 @@ use Rattle.calculation.specs.Penalties.{penalty}
 pub worked : Figures
 unfolding penalty
 worked = record {
-  deliverer_fails_lem = refl;
-  receiver_fails_lem = refl;
+  deliverer_fails = refl;
+  receiver_fails = refl;
   free_in_euro = refl;
   deliverer_opted = refl;
   receiver_opted = refl;

@@ -91,8 +91,8 @@ abbrev pub bond : SecuritySheet
 bond = euro_sheet 100000 PublicBond (lit≤ tt, lit≤ tt)
 
 pub record Figures : Type 0 where
-  pub deliverer_fails_lem : charged share (reported 1 1000 2500000 (Fail 40 1 2)) ≡ Ok (One (deliverer 0 250))
-  pub receiver_fails_lem : charged share (reported 1 1000 2500000 (Fail 40 2 1)) ≡ Ok (One (receiver 0 150))
+  pub deliverer_fails : charged share (reported 1 1000 2500000 (Fail 40 1 2)) ≡ Ok (One (deliverer 0 250))
+  pub receiver_fails : charged share (reported 1 1000 2500000 (Fail 40 2 1)) ≡ Ok (One (receiver 0 150))
   pub free_in_euro : charged danish (reported 2 1000 0 (Fail 40 3 4)) ≡ Ok (One (deliverer 0 67))
   pub deliverer_opted : charges_of every_day (only_opted 0) (sheets_with danish) (reported 2 1000 0 (Fail 40 3 4)) ≡ Ok (One (deliverer 1 500))
   pub receiver_opted : charges_of every_day (only_opted 10) (sheets_with danish) (reported 2 1000 0 (Fail 40 3 4)) ≡ Ok (One (deliverer 1 500))
