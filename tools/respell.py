@@ -3,8 +3,9 @@
 
 A name in lower camel case becomes snake case, as firstPlace becomes first_place. A dash between plain words becomes _,
 as in worth-fits; it stays before the name of a function that a lemma is about, as in fits-append. Where two names would
-fall together, the dashed one, which is a lemma, takes the ending _lem. Types, modules, functions of src/, strings and
-comments' prose keep their spelling. Run it once, after the toolchain's own script.
+fall together, the lemma takes the ending _lem. Types, modules, functions of src/ and strings keep their spelling; a name
+in a comment, or in a code span of README.md and docs/, turns with the name that it means. Run it once, after the
+toolchain's own script.
 """
 
 import os
@@ -61,7 +62,7 @@ def table():
     for word in sorted(dashed):
         new = undashed(word)
         rows[word] = new + "_lem" if new in taken else new
-    # two definitions that would fall together: the one that was a lemma already in snake case moves aside
+    # the toolchain's script has put some lemmas into snake case already; one that would now be named as a definition moves aside
     for word in sorted(plain & set(snake(w) for w in camel)):
         rows[word] = word + "_lem"
     return {old: new for old, new in rows.items() if old != new}
