@@ -1,5 +1,5 @@
 -- What a whole journal says: what each of its lines adds, and which line cannot be read. Assumes nothing.
-use Rattle.std.specs.Prelude.{◌≡◌, ℕ, ◌+◌, ◌-◌, Bool, true, false, cond, List, [], ◌∷◌, ◌++◌, map, replicate, Some, None, Ok, Err, vec_items, fold, Option, Result, ◌==◌, slice_index_or, slice_set}
+use Rattle.std.specs.Prelude.{◌≡◌, ℕ, ◌+◌, ◌-◌, Bool, true, false, List, [], ◌∷◌, ◌++◌, map, replicate, Some, None, Ok, Err, vec_items, fold, Option, Result, slice_index_or, slice_set}
 use Rattle.lines.specs.declared.expected.Expected.{Expected}
 use Rattle.lines.specs.declared.expected.Expected.TheVariants as expected
 use Rattle.lines.specs.declared.said.Span.{Span}
@@ -11,6 +11,7 @@ use Rattle.journal.specs.declared.read.NotRead.{NotRead}
 use Rattle.journal.specs.declared.read.NotRead.TheVariants as reasons
 use Rattle.lines.specs.declared.unread.Unread.{Unread}
 use Rattle.lines.specs.declared.unread.Unread.TheVariants as unread
+use Rattle.words.specs.Words.{lines_of}
 use Rattle.lines.specs.Lines.{Said, business, opted, source, call, line_of}
 
 -- a journal, with its lists in place of the vectors that hold them
@@ -58,15 +59,6 @@ pub record Bad : Type 0 where
 
 abbrev pub bad : ℕ → List ℕ → Expected → Bad
 bad n t e = record { number = n; text = t; expected = e }
-
-abbrev pub on_first : ℕ → List (List ℕ) → List (List ℕ)
-on_first b [] = (b ∷ []) ∷ []
-on_first b (l ∷ ls) = (b ∷ l) ∷ ls
-
--- the lines of a text, each ended by a line feed; the last may lack it
-abbrev pub lines_of : List ℕ → List (List ℕ)
-lines_of [] = []
-lines_of (b ∷ bs) = cond (b == 10) ([] ∷ lines_of bs) (on_first b (lines_of bs))
 
 abbrev pub and_on : Result Kept Expected → (Expected → Bad) → (Kept → Result Kept Bad) → Result Kept Bad
 and_on (Ok k) at next = next k

@@ -22,6 +22,10 @@ use Rattle.lines.specs.Fields as field
 abbrev pub keyed : {A : Type 0} → Keyword → (List ℕ → Parsed A) → List ℕ → Parsed A
 keyed k p = and_then (field.keyword k) (λ _. p)
 
+-- two fields of one kind
+abbrev pub pair : {A : Type 0} → (List ℕ → Parsed A) → List ℕ → Parsed (A × A)
+pair p = and_then p (λ a. and_then p (λ b. reads (a, b)))
+
 abbrev pub day : Keyword → List ℕ → Parsed ℕ
 day k = keyed k field.day
 
@@ -105,17 +109,11 @@ trade =
 
 -- reasons 1 2
 abbrev pub reasons : List ℕ → Parsed (ℕ × ℕ)
-reasons =
-    keyed key.Reasons (and_then (field.number 255 expected.Reason) (λ a.
-    and_then (field.number 255 expected.Reason) (λ b.
-    reads (a, b))))
+reasons = keyed key.Reasons (pair (field.number 255 expected.Reason))
 
 -- times 100 200
 abbrev pub times : List ℕ → Parsed (ℕ × ℕ)
-times =
-    keyed key.Times (and_then (field.number 4294967295 expected.Time) (λ a.
-    and_then (field.number 4294967295 expected.Time) (λ b.
-    reads (a, b))))
+times = keyed key.Times (pair (field.number 4294967295 expected.Time))
 
 -- day 02-10 reasons 1 2
 abbrev pub fail : List ℕ → Parsed Event

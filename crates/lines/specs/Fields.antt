@@ -14,6 +14,8 @@ use Rattle.lines.specs.declared.choice.Verb.{Verb}
 use Rattle.lines.specs.declared.choice.Verb.TheVariants as verbs
 use Rattle.lines.specs.declared.choice.Kind.{Kind}
 use Rattle.lines.specs.declared.choice.Kind.TheVariants as kinds
+use Rattle.lines.specs.declared.choice.BaseKind.{BaseKind}
+use Rattle.lines.specs.declared.choice.BaseKind.TheVariants as base_kinds
 use Rattle.lines.specs.declared.choice.Form.{Form}
 use Rattle.lines.specs.declared.choice.Form.TheVariants as forms
 use Rattle.words.specs.Words.{next_word, after_word}
@@ -71,15 +73,16 @@ kind_of w =
     (choice w (codes "opted") kinds.Opted
     (choice w (codes "source") kinds.Source (called (verb_of w))))
 
-abbrev pub form_of : List ℕ → Option Form
-form_of w =
-    choice w (codes "plain") forms.Plain
-    (choice w (codes "steps") forms.Steps
-    (choice w (codes "carry") forms.Carry None))
+abbrev pub base_kind_of : List ℕ → Option BaseKind
+base_kind_of w = choice w (codes "plain") base_kinds.Plain (choice w (codes "steps") base_kinds.Steps None)
 
--- false for plain, true for steps
-abbrev pub stepped_of : List ℕ → Option Bool
-stepped_of w = choice w (codes "plain") false (choice w (codes "steps") true None)
+-- a base alone
+abbrev pub bare : Option BaseKind → Option Form
+bare None = None
+bare (Some b) = Some (forms.Base b)
+
+abbrev pub form_of : List ℕ → Option Form
+form_of w = choice w (codes "carry") forms.Carry (bare (base_kind_of w))
 
 abbrev pub keyword : Keyword → List ℕ → Parsed (Unit {0})
 keyword k = field (word_of k) (expected.Word k)
@@ -108,8 +111,8 @@ happened = field happened_of expected.Event
 abbrev pub form : List ℕ → Parsed Form
 form = field form_of expected.Source
 
-abbrev pub stepped : List ℕ → Parsed Bool
-stepped = field stepped_of expected.Base
+abbrev pub base_kind : List ℕ → Parsed BaseKind
+base_kind = field base_kind_of expected.Base
 
 abbrev pub end_at : Option (List ℕ) → List ℕ → Parsed (Unit {0})
 end_at None rest = reads tt rest

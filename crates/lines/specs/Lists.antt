@@ -1,24 +1,11 @@
 -- Lines of one word or more, each of one kind. Assumes nothing.
-use Rattle.std.specs.Prelude.{ℕ, zero, suc, ◌-◌, Bool, cond, ◌&&◌, List, [], ◌∷◌, length, take, drop, Some, None, Ok, Err, codes, Option, Result, ◌==◌, nat_le}
+use Rattle.std.specs.Prelude.{ℕ, ◌-◌, Bool, cond, ◌&&◌, List, [], ◌∷◌, length, take, drop, Some, None, Ok, Err, codes, Option, Result, ◌==◌, nat_le}
 use Rattle.std.specs.Str.{bytes_eq}
-use Rattle.words.specs.Words.{next_word, after_word}
+use Rattle.words.specs.Words.{words_of}
 use Rattle.words.specs.Numbers.{number_of, day_of}
 use Rattle.lines.specs.declared.expected.Expected.{Expected}
 use Rattle.lines.specs.declared.expected.Expected.TheVariants as expected
 use Rattle.lines.specs.declared.said.Span.{Span}
-
-abbrev pub words_from : Option (List ℕ) → List (List ℕ) → List (List ℕ)
-words_from None ws = []
-words_from (Some w) ws = w ∷ ws
-
--- the first words of a text, at most as many as the number says
-abbrev pub words_in : ℕ → List ℕ → List (List ℕ)
-words_in zero bs = []
-words_in (suc n) bs = words_from (next_word bs) (words_in n (after_word bs))
-
--- all words of a text, of which there are no more than bytes
-unfoldable pub words_of : List ℕ → List (List ℕ)
-words_of bs = words_in (length bs) bs
 
 abbrev pub both : {A : Type 0} → Option A → Option (List A) → Option (List A)
 both None o = None

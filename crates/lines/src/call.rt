@@ -1,22 +1,21 @@
 // The calls of a journal, read from what follows their first word.
-ghost use Rattle.words.specs.Words.{left};
 ghost use Rattle.lines.specs.Grammar.{Reads};
 ghost use Rattle.lines.specs.Calls as calls;
 
-use crate::choice::{Happened, Subject, Verb};
+use crate::choice::{Happened, Subject, Verb, happened_of, side_of, subject_of};
 use crate::expected::{Expected, Keyword};
 use crate::said::{Call, Event, Quote, Trade};
 use crate::{field, keyed};
 use words::scan::Words;
 
 fn enter_security(words: &mut Words<'_>) -> Result<Call, Expected>
-    ensures cases { Reads calls.enter_security (left words.old) result (left words.new) }
+    ensures cases { Reads calls.enter_security words.old result words.new }
 {
-    let security = field::number16(words, Expected::Security)?;
+    let security = field::number(words, Expected::Security)?;
     let day = keyed::day(words, Keyword::Day)?;
     let price = keyed::decimal(words, Keyword::Price, 4, Expected::Price)?;
     let currency = keyed::currency(words)?;
-    let class = keyed::number8(words, Keyword::Class, Expected::Class)?;
+    let class = keyed::number(words, Keyword::Class, Expected::Class)?;
     Ok(Call::EnterSecurity {
         security,
         day,
@@ -27,7 +26,7 @@ fn enter_security(words: &mut Words<'_>) -> Result<Call, Expected>
 }
 
 fn enter_currency(words: &mut Words<'_>) -> Result<Call, Expected>
-    ensures cases { Reads calls.enter_currency (left words.old) result (left words.new) }
+    ensures cases { Reads calls.enter_currency words.old result words.new }
 {
     let currency = field::currency(words)?;
     let day = keyed::day(words, Keyword::Day)?;
@@ -42,15 +41,15 @@ fn enter_currency(words: &mut Words<'_>) -> Result<Call, Expected>
 }
 
 fn ask_security(words: &mut Words<'_>) -> Result<Call, Expected>
-    ensures cases { Reads calls.ask_security (left words.old) result (left words.new) }
+    ensures cases { Reads calls.ask_security words.old result words.new }
 {
-    let security = field::number16(words, Expected::Security)?;
+    let security = field::number(words, Expected::Security)?;
     let day = keyed::day(words, Keyword::Day)?;
     Ok(Call::AskSecurity { security, day })
 }
 
 fn ask_currency(words: &mut Words<'_>) -> Result<Call, Expected>
-    ensures cases { Reads calls.ask_currency (left words.old) result (left words.new) }
+    ensures cases { Reads calls.ask_currency words.old result words.new }
 {
     let currency = field::currency(words)?;
     let day = keyed::day(words, Keyword::Day)?;
@@ -58,32 +57,33 @@ fn ask_currency(words: &mut Words<'_>) -> Result<Call, Expected>
 }
 
 fn sheet(words: &mut Words<'_>) -> Result<Call, Expected>
-    ensures cases { Reads calls.sheet (left words.old) result (left words.new) }
+    ensures cases { Reads calls.sheet words.old result words.new }
 {
-    match field::subject(words)? {
+    match field::word(words, Expected::Subject, subject_of)? {
         Subject::Security => ask_security(words),
         Subject::Currency => ask_currency(words),
     }
 }
 
+// The parts of a trade each have their own words: one function for all would take every word as a parameter.
 fn parties(words: &mut Words<'_>) -> Result<(u16, u16), Expected>
-    ensures cases { Reads calls.parties (left words.old) result (left words.new) }
+    ensures cases { Reads calls.parties words.old result words.new }
 {
-    let deliverer = keyed::number16(words, Keyword::From, Expected::Party)?;
-    let receiver = keyed::number16(words, Keyword::To, Expected::Party)?;
+    let deliverer = keyed::number(words, Keyword::From, Expected::Party)?;
+    let receiver = keyed::number(words, Keyword::To, Expected::Party)?;
     Ok((deliverer, receiver))
 }
 
 fn goods(words: &mut Words<'_>) -> Result<(u16, u64), Expected>
-    ensures cases { Reads calls.goods (left words.old) result (left words.new) }
+    ensures cases { Reads calls.goods words.old result words.new }
 {
-    let security = keyed::number16(words, Keyword::Security, Expected::Security)?;
-    let quantity = keyed::number64(words, Keyword::Quantity, Expected::Quantity)?;
+    let security = keyed::number(words, Keyword::Security, Expected::Security)?;
+    let quantity = keyed::number(words, Keyword::Quantity, Expected::Quantity)?;
     Ok((security, quantity))
 }
 
 fn money(words: &mut Words<'_>) -> Result<(u64, u8), Expected>
-    ensures cases { Reads calls.money (left words.old) result (left words.new) }
+    ensures cases { Reads calls.money words.old result words.new }
 {
     let cash = keyed::decimal(words, Keyword::Cash, 2, Expected::Cash)?;
     let currency = keyed::currency(words)?;
@@ -91,10 +91,10 @@ fn money(words: &mut Words<'_>) -> Result<(u64, u8), Expected>
 }
 
 fn trade(words: &mut Words<'_>) -> Result<Trade, Expected>
-    ensures cases { Reads calls.trade (left words.old) result (left words.new) }
+    ensures cases { Reads calls.trade words.old result words.new }
 {
-    let instruction = field::number32(words, Expected::Instruction)?;
-    let kind = keyed::number8(words, Keyword::Type, Expected::Type)?;
+    let instruction = field::number(words, Expected::Instruction)?;
+    let kind = keyed::number(words, Keyword::Type, Expected::Type)?;
     let (deliverer, receiver) = parties(words)?;
     let (security, quantity) = goods(words)?;
     let (cash, currency) = money(words)?;
@@ -110,39 +110,21 @@ fn trade(words: &mut Words<'_>) -> Result<Trade, Expected>
     })
 }
 
-fn reasons(words: &mut Words<'_>) -> Result<(u8, u8), Expected>
-    ensures cases { Reads calls.reasons (left words.old) result (left words.new) }
-{
-    field::keyword(words, Keyword::Reasons)?;
-    let first = field::number8(words, Expected::Reason)?;
-    let second = field::number8(words, Expected::Reason)?;
-    Ok((first, second))
-}
-
-fn times(words: &mut Words<'_>) -> Result<(u32, u32), Expected>
-    ensures cases { Reads calls.times (left words.old) result (left words.new) }
-{
-    field::keyword(words, Keyword::Times)?;
-    let first = field::number32(words, Expected::Time)?;
-    let second = field::number32(words, Expected::Time)?;
-    Ok((first, second))
-}
-
 fn fail(words: &mut Words<'_>) -> Result<Event, Expected>
-    ensures cases { Reads calls.fail (left words.old) result (left words.new) }
+    ensures cases { Reads calls.fail words.old result words.new }
 {
     let day = keyed::day(words, Keyword::Day)?;
-    let reasons = reasons(words)?;
+    let reasons = keyed::pair(words, Keyword::Reasons, Expected::Reason)?;
     Ok(Event::Fail { day, reasons })
 }
 
 fn late(words: &mut Words<'_>) -> Result<Event, Expected>
-    ensures cases { Reads calls.late (left words.old) result (left words.new) }
+    ensures cases { Reads calls.late words.old result words.new }
 {
     let intended = keyed::day(words, Keyword::Intended)?;
     let matched = keyed::day(words, Keyword::Matched)?;
-    let after = field::side(words)?;
-    let times = times(words)?;
+    let after = field::word(words, Expected::Side, side_of)?;
+    let times = keyed::pair(words, Keyword::Times, Expected::Time)?;
     Ok(Event::Late {
         intended,
         matched,
@@ -151,8 +133,9 @@ fn late(words: &mut Words<'_>) -> Result<Event, Expected>
     })
 }
 
+// A match, here and in `call`: the cases are closed, and each reads words of its own.
 fn event(words: &mut Words<'_>, happened: Happened) -> Result<Event, Expected>
-    ensures cases { Reads (calls.event happened) (left words.old) result (left words.new) }
+    ensures cases { Reads (calls.event happened) words.old result words.new }
 {
     match happened {
         Happened::Fail => fail(words),
@@ -161,16 +144,16 @@ fn event(words: &mut Words<'_>, happened: Happened) -> Result<Event, Expected>
 }
 
 fn quote(words: &mut Words<'_>) -> Result<Call, Expected>
-    ensures cases { Reads calls.quote (left words.old) result (left words.new) }
+    ensures cases { Reads calls.quote words.old result words.new }
 {
-    let happened = field::happened(words)?;
+    let happened = field::word(words, Expected::Event, happened_of)?;
     let trade = trade(words)?;
     let event = event(words, happened)?;
     Ok(Call::Quote(Quote { trade, event }))
 }
 
 pub(crate) fn call(words: &mut Words<'_>, verb: Verb) -> Result<Call, Expected>
-    ensures cases { Reads (calls.call verb) (left words.old) result (left words.new) }
+    ensures cases { Reads (calls.call verb) words.old result words.new }
 {
     match verb {
         Verb::Security => enter_security(words),

@@ -1,25 +1,23 @@
 // Words of which a line has one or another.
 ghost use Rattle.std.specs.Prelude.{◌≡◌};
-ghost use Rattle.lines.specs.Fields.{verb_of, kind_of, form_of, stepped_of, side_of, subject_of, happened_of};
-
-use words::read::is;
+ghost use Rattle.lines.specs.Fields.{kind_of, form_of, base_kind_of, side_of, subject_of, happened_of};
 
 // What a sheet is of.
-#[derive(Clone, Copy)]
+#[derive(Clone, Copy, Debug, PartialEq, Eq)]
 pub(crate) enum Subject {
     Security,
     Currency,
 }
 
 // What a quote is for.
-#[derive(Clone, Copy)]
+#[derive(Clone, Copy, Debug, PartialEq, Eq)]
 pub(crate) enum Happened {
     Fail,
     Late,
 }
 
 // The first words of the lines that are calls.
-#[derive(Clone, Copy)]
+#[derive(Clone, Copy, Debug, PartialEq, Eq)]
 pub(crate) enum Verb {
     Security,
     Currency,
@@ -28,7 +26,7 @@ pub(crate) enum Verb {
 }
 
 // The first words of lines.
-#[derive(Clone, Copy)]
+#[derive(Clone, Copy, Debug, PartialEq, Eq)]
 pub(crate) enum Kind {
     Business,
     Opted,
@@ -36,109 +34,82 @@ pub(crate) enum Kind {
     Call(Verb),
 }
 
-// What a source is made of: its base, or a layer over one.
-#[derive(Clone, Copy)]
-pub(crate) enum Form {
+// The bases of a source.
+#[derive(Clone, Copy, Debug, PartialEq, Eq)]
+pub(crate) enum BaseKind {
     Plain,
     Steps,
+}
+
+// What a source is made of: its base, or a layer over one.
+#[derive(Clone, Copy, Debug, PartialEq, Eq)]
+pub(crate) enum Form {
+    Base(BaseKind),
     Carry,
 }
 
-// Whether a match came after the cut-off.
+// Whether a match came after the cut-off, as a late event keeps it.
 pub(crate) fn side_of(word: &[u8]) -> Option<bool>
     ensures value { result ≡ side_of word.now }
 {
-    if is(word, b"before") {
-        return Some(false);
+    match word {
+        b"before" => Some(false),
+        b"after" => Some(true),
+        _ => None,
     }
-    if is(word, b"after") {
-        return Some(true);
-    }
-    None
 }
 
+// Each choice is a table of its own words; a function over a table given as a slice would be no shorter.
 pub(crate) fn subject_of(word: &[u8]) -> Option<Subject>
     ensures value { result ≡ subject_of word.now }
 {
-    if is(word, b"security") {
-        return Some(Subject::Security);
+    match word {
+        b"security" => Some(Subject::Security),
+        b"currency" => Some(Subject::Currency),
+        _ => None,
     }
-    if is(word, b"currency") {
-        return Some(Subject::Currency);
-    }
-    None
 }
 
 pub(crate) fn happened_of(word: &[u8]) -> Option<Happened>
     ensures value { result ≡ happened_of word.now }
 {
-    if is(word, b"fail") {
-        return Some(Happened::Fail);
+    match word {
+        b"fail" => Some(Happened::Fail),
+        b"late" => Some(Happened::Late),
+        _ => None,
     }
-    if is(word, b"late") {
-        return Some(Happened::Late);
-    }
-    None
-}
-
-fn verb_of(word: &[u8]) -> Option<Verb>
-    ensures value { result ≡ verb_of word.now }
-{
-    if is(word, b"security") {
-        return Some(Verb::Security);
-    }
-    if is(word, b"currency") {
-        return Some(Verb::Currency);
-    }
-    if is(word, b"sheet") {
-        return Some(Verb::Sheet);
-    }
-    if is(word, b"quote") {
-        return Some(Verb::Quote);
-    }
-    None
 }
 
 pub(crate) fn kind_of(word: &[u8]) -> Option<Kind>
     ensures value { result ≡ kind_of word.now }
 {
-    if is(word, b"business") {
-        return Some(Kind::Business);
+    match word {
+        b"business" => Some(Kind::Business),
+        b"opted" => Some(Kind::Opted),
+        b"source" => Some(Kind::Source),
+        b"security" => Some(Kind::Call(Verb::Security)),
+        b"currency" => Some(Kind::Call(Verb::Currency)),
+        b"sheet" => Some(Kind::Call(Verb::Sheet)),
+        b"quote" => Some(Kind::Call(Verb::Quote)),
+        _ => None,
     }
-    if is(word, b"opted") {
-        return Some(Kind::Opted);
+}
+
+pub(crate) fn base_kind_of(word: &[u8]) -> Option<BaseKind>
+    ensures value { result ≡ base_kind_of word.now }
+{
+    match word {
+        b"plain" => Some(BaseKind::Plain),
+        b"steps" => Some(BaseKind::Steps),
+        _ => None,
     }
-    if is(word, b"source") {
-        return Some(Kind::Source);
-    }
-    let verb = verb_of(word)?;
-    Some(Kind::Call(verb))
 }
 
 pub(crate) fn form_of(word: &[u8]) -> Option<Form>
     ensures value { result ≡ form_of word.now }
 {
-    if is(word, b"plain") {
-        return Some(Form::Plain);
+    match word {
+        b"carry" => Some(Form::Carry),
+        _ => base_kind_of(word).map(Form::Base),
     }
-    if is(word, b"steps") {
-        return Some(Form::Steps);
-    }
-    if is(word, b"carry") {
-        return Some(Form::Carry);
-    }
-    None
-}
-
-// Whether a base under a layer is kept in steps.
-pub(crate) fn stepped_of(word: &[u8]) -> Option<bool>
-    ensures value { result ≡ stepped_of word.now }
-{
-    if is(word, b"plain") {
-        return Some(false);
-    }
-    if is(word, b"steps") {
-        return Some(true);
-    }
-    None
 }

@@ -5,7 +5,7 @@ ghost use Rattle.lines.specs.Fields.{text_of};
 use std::fmt;
 
 // The words that say what follows.
-#[derive(Clone, Copy)]
+#[derive(Clone, Copy, Debug, PartialEq, Eq)]
 pub enum Keyword {
     Day,
     Price,
@@ -25,7 +25,7 @@ pub enum Keyword {
     Times,
 }
 
-#[derive(Clone, Copy)]
+#[derive(Clone, Copy, Debug, PartialEq, Eq)]
 pub enum Expected {
     Word(Keyword),
     Line,

@@ -1,40 +1,42 @@
 // The fields of a line: each takes one word, or says what it expected.
-ghost use Rattle.std.specs.Prelude.{◌≤◌, IfOk};
-ghost use Rattle.words.specs.Words.{left};
-ghost use Rattle.lines.specs.Grammar.{Reads};
+ghost use Rattle.std.specs.Prelude.{ℕ, List, Option};
+ghost use Rattle.lines.specs.Grammar.{Reads, Makes, field as one_word};
 ghost use Rattle.lines.specs.Fields as fields;
 
-use crate::choice::{
-    Form, Happened, Subject, form_of, happened_of, side_of, stepped_of, subject_of,
-};
 use crate::expected::{Expected, Keyword};
-use words::read::{currency_of, day_of, decimal_of, is, number_of};
+use crate::number::Number;
+use words::read::{currency_of, day_of, decimal_of, is};
 use words::scan::Words;
 
-pub(crate) fn keyword(words: &mut Words<'_>, keyword: Keyword) -> Result<(), Expected>
-    ensures cases { Reads (fields.keyword keyword) (left words.old) result (left words.new) }
+// One word, of which `read` makes a value.
+#[tactic(auto, unfolding(crate::specs::Grammar::field))]
+pub(crate) fn word<T, F: FnOnce(&[u8]) -> Option<T>>(
+    words: &mut Words<'_>,
+    expected: Expected,
+    read: F,
+) -> Result<T, Expected>
+    requires { F.IsAlwaysCallable read }
+    ensures cases { (f : List ℕ → Option T) → Makes (F.post read) f → Reads (one_word f expected) words.old result words.new }
 {
-    let Some(word) = words.next_word() else {
-        return Err(Expected::Word(keyword));
-    };
-    if !is(word, keyword.text().as_bytes()) {
-        return Err(Expected::Word(keyword));
-    }
-    Ok(())
+    let word = words.next().ok_or(expected)?;
+    read(word).ok_or(expected)
 }
 
-pub(crate) fn number64(
-    words: &mut Words<'_>,
-    limit: u64,
-    expected: Expected,
-) -> Result<u64, Expected>
-    ensures cases { Reads (fields.number limit expected) (left words.old) result (left words.new) }
-    ensures bound { IfOk result (λ n. n ≤ limit) }
+pub(crate) fn keyword(words: &mut Words<'_>, keyword: Keyword) -> Result<(), Expected>
+    ensures cases { Reads (fields.keyword keyword) words.old result words.new }
 {
-    let Some(word) = words.next_word() else {
-        return Err(expected);
-    };
-    number_of(word, limit).ok_or(expected)
+    word(words, Expected::Word(keyword), |word| {
+        is(word, keyword.text().as_bytes()).then_some(())
+    })
+}
+
+#[tactic(auto, unfolding(crate::specs::Grammar::field))]
+pub(crate) fn number<T: Number>(words: &mut Words<'_>, expected: Expected) -> Result<T, Expected>
+    ensures cases { Reads (one_word T.written expected) words.old result words.new }
+{
+    // `word(words, expected, T::of_word)` gets no proof: the function passed gives a T that its argument does not name.
+    let word = words.next().ok_or(expected)?;
+    T::of_word(word).ok_or(expected)
 }
 
 pub(crate) fn decimal(
@@ -42,102 +44,29 @@ pub(crate) fn decimal(
     places: u8,
     expected: Expected,
 ) -> Result<u64, Expected>
-    ensures cases { Reads (fields.decimal places expected) (left words.old) result (left words.new) }
+    ensures cases { Reads (fields.decimal places expected) words.old result words.new }
 {
-    let Some(word) = words.next_word() else {
-        return Err(expected);
-    };
-    decimal_of(word, places).ok_or(expected)
+    word(words, expected, |word| decimal_of(word, places))
 }
 
+// A day and a currency are functions of their own: tried without them, the goals of `keyed` stay open.
 pub(crate) fn day(words: &mut Words<'_>) -> Result<u16, Expected>
-    ensures cases { Reads fields.day (left words.old) result (left words.new) }
+    ensures cases { Reads fields.day words.old result words.new }
 {
-    let Some(word) = words.next_word() else {
-        return Err(Expected::Day);
-    };
-    day_of(word).ok_or(Expected::Day)
+    word(words, Expected::Day, day_of)
 }
 
 pub(crate) fn currency(words: &mut Words<'_>) -> Result<u8, Expected>
-    ensures cases { Reads fields.currency (left words.old) result (left words.new) }
+    ensures cases { Reads fields.currency words.old result words.new }
 {
-    let Some(word) = words.next_word() else {
-        return Err(Expected::Currency);
-    };
-    currency_of(word).ok_or(Expected::Currency)
+    word(words, Expected::Currency, currency_of)
 }
 
-pub(crate) fn side(words: &mut Words<'_>) -> Result<bool, Expected>
-    ensures cases { Reads fields.side (left words.old) result (left words.new) }
-{
-    let Some(word) = words.next_word() else {
-        return Err(Expected::Side);
-    };
-    side_of(word).ok_or(Expected::Side)
-}
-
-pub(crate) fn subject(words: &mut Words<'_>) -> Result<Subject, Expected>
-    ensures cases { Reads fields.subject (left words.old) result (left words.new) }
-{
-    let Some(word) = words.next_word() else {
-        return Err(Expected::Subject);
-    };
-    subject_of(word).ok_or(Expected::Subject)
-}
-
-pub(crate) fn happened(words: &mut Words<'_>) -> Result<Happened, Expected>
-    ensures cases { Reads fields.happened (left words.old) result (left words.new) }
-{
-    let Some(word) = words.next_word() else {
-        return Err(Expected::Event);
-    };
-    happened_of(word).ok_or(Expected::Event)
-}
-
-pub(crate) fn number8(words: &mut Words<'_>, expected: Expected) -> Result<u8, Expected>
-    ensures cases { Reads (fields.number 255 expected) (left words.old) result (left words.new) }
-{
-    let number = number64(words, 255, expected)?;
-    Ok(number as u8)
-}
-
-pub(crate) fn number16(words: &mut Words<'_>, expected: Expected) -> Result<u16, Expected>
-    ensures cases { Reads (fields.number 65535 expected) (left words.old) result (left words.new) }
-{
-    let number = number64(words, 65535, expected)?;
-    Ok(number as u16)
-}
-
-pub(crate) fn number32(words: &mut Words<'_>, expected: Expected) -> Result<u32, Expected>
-    ensures cases { Reads (fields.number 4294967295 expected) (left words.old) result (left words.new) }
-{
-    let number = number64(words, 4294967295, expected)?;
-    Ok(number as u32)
-}
-
-pub(crate) fn form(words: &mut Words<'_>) -> Result<Form, Expected>
-    ensures cases { Reads fields.form (left words.old) result (left words.new) }
-{
-    let Some(word) = words.next_word() else {
-        return Err(Expected::Source);
-    };
-    form_of(word).ok_or(Expected::Source)
-}
-
-pub(crate) fn stepped(words: &mut Words<'_>) -> Result<bool, Expected>
-    ensures cases { Reads fields.stepped (left words.old) result (left words.new) }
-{
-    let Some(word) = words.next_word() else {
-        return Err(Expected::Base);
-    };
-    stepped_of(word).ok_or(Expected::Base)
-}
-
+#[tactic(auto, unfolding(crate::specs::Fields::end))]
 pub(crate) fn end(words: &mut Words<'_>) -> Result<(), Expected>
-    ensures cases { Reads fields.end (left words.old) result (left words.new) }
+    ensures cases { Reads fields.end words.old result words.new }
 {
-    match words.next_word() {
+    match words.next() {
         Some(_) => Err(Expected::End),
         None => Ok(()),
     }

@@ -8,6 +8,7 @@ mod field;
 mod keyed;
 pub mod line;
 mod list;
+mod number;
 pub mod said;
 mod source;
 pub mod unread;

@@ -1,7 +1,7 @@
 // Lines of one word or more, each of one kind: days of business, and depositories.
 ghost use Rattle.std.specs.Prelude.{◌≡◌, ℕ, T as Holds, List, length, Some, Option};
-ghost use Rattle.words.specs.Words.{left};
-ghost use Rattle.lines.specs.Lists.{is_range, range_of, span_of, depository_of, listed, spans as the_spans, depositories as the_depositories};
+ghost use Rattle.lines.specs.Grammar.{Makes};
+ghost use Rattle.lines.specs.Lists.{is_range, range_of, span_of, depository_of, listed};
 ghost use Rattle.lines.specs.Unread.{Lists};
 
 use crate::expected::Expected;
@@ -14,10 +14,7 @@ use words::scan::Words;
 fn range(first: u16, last: u16) -> Option<Span>
     ensures value { result ≡ range_of (Some first) (Some last) }
 {
-    if first > last {
-        return None;
-    }
-    Some(Span { first, last })
+    (first <= last).then_some(Span { first, last })
 }
 
 // Whether two points stand between two words as long as days.
@@ -29,7 +26,7 @@ fn is_range(word: &[u8]) -> bool
 }
 
 // A day, or two with `..` between them.
-fn span_of(word: &[u8]) -> Option<Span>
+pub(crate) fn span_of(word: &[u8]) -> Option<Span>
     ensures value { result ≡ span_of word.now }
 {
     if !is_range(word) {
@@ -42,68 +39,29 @@ fn span_of(word: &[u8]) -> Option<Span>
 }
 
 // The place of a depository from 10 to 99.
-fn depository_of(word: &[u8]) -> Option<u8>
+pub(crate) fn depository_of(word: &[u8]) -> Option<u8>
     ensures value { result ≡ depository_of word.now }
 {
-    let number = number_of(word, 99)?;
-    if number < 10 {
-        return None;
-    }
-    Some((number - 10) as u8)
+    let place = number_of(word, 99)?.checked_sub(10)?;
+    Some(place as u8)
 }
 
-// What one word of a list writes.
-trait Item: Copy {
-    ghost written: { List ℕ → Option Self };
-
-    fn of_word(word: &[u8]) -> Option<Self>
-        ensures value { result ≡ written word.now };
-}
-
-impl Item for Span {
-    ghost written = { span_of };
-
-    fn of_word(word: &[u8]) -> Option<Span> {
-        span_of(word)
-    }
-}
-
-// A depository, by its place.
-impl Item for u8 {
-    ghost written = { depository_of };
-
-    fn of_word(word: &[u8]) -> Option<u8> {
-        depository_of(word)
-    }
-}
-
-// One word or more, each an item.
-fn items<T: Item>(heap: Global, words: &mut Words<'_>, expected: Expected) -> Result<Vec<T>, Unread>
-    ensures cases { Lists result (listed T.written expected (left words.old)) }
+// One word or more, of each of which `read` makes an item.
+pub(crate) fn items<T: Drop, F: Fn(&[u8]) -> Option<T>>(
+    heap: Global,
+    words: &mut Words<'_>,
+    expected: Expected,
+    read: F,
+) -> Result<Vec<T>, Unread>
+    requires { F.IsAlwaysCallable read }
+    ensures cases { (f : List ℕ → Option T) → Makes (F.post read) f → Lists result (listed f expected words.old) }
 {
     let mut all = Vec::new(heap);
-    while let Some(word) = words.next_word() {
-        let Some(item) = T::of_word(word) else {
-            return Err(Unread::Malformed(expected));
-        };
-        if all.push(item).is_err() {
-            return Err(Unread::Memory);
-        }
+    for word in words {
+        all.push(read(word).ok_or(expected)?)?;
     }
     if all.is_empty() {
-        return Err(Unread::Malformed(expected));
+        return Err(expected.into());
     }
     Ok(all)
-}
-
-pub(crate) fn spans(heap: Global, words: &mut Words<'_>) -> Result<Vec<Span>, Unread>
-    ensures cases { Lists result (the_spans (left words.old)) }
-{
-    items(heap, words, Expected::Span)
-}
-
-pub(crate) fn depositories(heap: Global, words: &mut Words<'_>) -> Result<Vec<u8>, Unread>
-    ensures cases { Lists result (the_depositories (left words.old)) }
-{
-    items(heap, words, Expected::Depository)
 }

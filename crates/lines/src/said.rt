@@ -1,5 +1,5 @@
-// What the lines of a journal say: its settings, and its calls.
-#[derive(Clone, Copy, PartialEq, Eq)]
+// What the lines of a journal say: its settings, and its calls, with raw numbers as they are written; the calls refuse what is none.
+#[derive(Clone, Copy, Debug, PartialEq, Eq)]
 pub struct Trade {
     pub instruction: u32,
     pub kind: u8,
@@ -12,7 +12,7 @@ pub struct Trade {
 }
 
 // A settlement fail on a day, or a match after the intended day; a match after the cut-off has `after`.
-#[derive(Clone, Copy, PartialEq, Eq)]
+#[derive(Clone, Copy, Debug, PartialEq, Eq)]
 pub enum Event {
     Fail {
         day: u16,
@@ -26,13 +26,13 @@ pub enum Event {
     },
 }
 
-#[derive(Clone, Copy, PartialEq, Eq)]
+#[derive(Clone, Copy, Debug, PartialEq, Eq)]
 pub struct Quote {
     pub trade: Trade,
     pub event: Event,
 }
 
-#[derive(Clone, Copy, PartialEq, Eq)]
+#[derive(Clone, Copy, Debug, PartialEq, Eq)]
 pub enum Call {
     EnterSecurity {
         security: u16,
@@ -59,14 +59,14 @@ pub enum Call {
 }
 
 // The days from the first to the last, by their numbers.
-#[derive(Clone, Copy)]
+#[derive(Clone, Copy, Debug, PartialEq, Eq)]
 pub struct Span {
     pub first: u16,
     pub last: u16,
 }
 
 // Where sheets are kept: rows of their own, or steps from day to day.
-#[derive(Clone, Copy, PartialEq, Eq)]
+#[derive(Clone, Copy, Debug, PartialEq, Eq)]
 pub enum Base {
     Plain {
         securities: usize,
@@ -76,14 +76,14 @@ pub enum Base {
 }
 
 // With a reach, a sheet is carried over that many days.
-#[derive(Clone, Copy, PartialEq, Eq)]
+#[derive(Clone, Copy, Debug, PartialEq, Eq)]
 pub struct Source {
     pub reach: Option<u8>,
     pub base: Base,
 }
 
 // The opted depositories go by their places: 10 has the place 0.
-#[derive(Drop)]
+#[derive(Debug, Drop, PartialEq, Eq)]
 pub enum Line {
     Business(Vec<Span>),
     Opted(Vec<u8>),

@@ -1,25 +1,26 @@
 // The line of a journal that sets where sheets are kept.
-ghost use Rattle.words.specs.Words.{left};
 ghost use Rattle.lines.specs.Grammar.{Reads};
 ghost use Rattle.lines.specs.Settings as settings;
 
-use crate::choice::Form;
+use crate::choice::{BaseKind, Form, base_kind_of, form_of};
 use crate::expected::Expected;
 use crate::field;
 use crate::said::{Base, Source};
+use words::read::number_of;
 use words::scan::Words;
 
 const MOST_ROWS: u64 = 1_000_000;
 
 fn rows(words: &mut Words<'_>) -> Result<usize, Expected>
-    ensures cases { Reads settings.rows (left words.old) result (left words.new) }
+    ensures cases { Reads settings.rows words.old result words.new }
 {
-    let number = field::number64(words, MOST_ROWS, Expected::Rows)?;
-    Ok(number as usize)
+    field::word(words, Expected::Rows, |word| {
+        number_of(word, MOST_ROWS).map(|number| number as usize)
+    })
 }
 
 fn plain(words: &mut Words<'_>) -> Result<Base, Expected>
-    ensures cases { Reads settings.plain (left words.old) result (left words.new) }
+    ensures cases { Reads settings.plain words.old result words.new }
 {
     let securities = rows(words)?;
     let currencies = rows(words)?;
@@ -29,20 +30,22 @@ fn plain(words: &mut Words<'_>) -> Result<Base, Expected>
     })
 }
 
-fn base(words: &mut Words<'_>) -> Result<Base, Expected>
-    ensures cases { Reads settings.base (left words.old) result (left words.new) }
+// A match: the kinds are closed, and each reads words of its own.
+fn base(words: &mut Words<'_>, kind: BaseKind) -> Result<Base, Expected>
+    ensures cases { Reads (settings.based kind) words.old result words.new }
 {
-    if field::stepped(words)? {
-        return Ok(Base::Steps);
+    match kind {
+        BaseKind::Plain => plain(words),
+        BaseKind::Steps => Ok(Base::Steps),
     }
-    plain(words)
 }
 
 fn carry(words: &mut Words<'_>) -> Result<Source, Expected>
-    ensures cases { Reads settings.carry (left words.old) result (left words.new) }
+    ensures cases { Reads settings.carry words.old result words.new }
 {
-    let reach = field::number8(words, Expected::Reach)?;
-    let base = base(words)?;
+    let reach = field::number(words, Expected::Reach)?;
+    let kind = field::word(words, Expected::Base, base_kind_of)?;
+    let base = base(words, kind)?;
     Ok(Source {
         reach: Some(reach),
         base,
@@ -50,12 +53,13 @@ fn carry(words: &mut Words<'_>) -> Result<Source, Expected>
 }
 
 pub(crate) fn source(words: &mut Words<'_>) -> Result<Source, Expected>
-    ensures cases { Reads settings.source (left words.old) result (left words.new) }
+    ensures cases { Reads settings.source words.old result words.new }
 {
-    let base = match field::form(words)? {
-        Form::Plain => plain(words)?,
-        Form::Steps => Base::Steps,
-        Form::Carry => return carry(words),
-    };
-    Ok(Source { reach: None, base })
+    match field::word(words, Expected::Source, form_of)? {
+        Form::Base(kind) => Ok(Source {
+            reach: None,
+            base: base(words, kind)?,
+        }),
+        Form::Carry => carry(words),
+    }
 }

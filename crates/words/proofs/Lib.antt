@@ -1,2 +1,4 @@
 mod Digits
 mod Lines
+pub mod Steps
+mod Words
