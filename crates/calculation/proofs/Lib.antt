@@ -1,7 +1,5 @@
-mod Rounds
 mod Binding
 mod DaySteps
-pub mod Sums
-mod Whole
+mod Sums
 mod Dependence
 mod Worked

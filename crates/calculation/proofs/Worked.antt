@@ -1,10 +1,10 @@
 -- The worked figures, by calculating each.
 use Rattle.std.proofs.Common.{refl}
 use Rattle.calculation.specs.Figures.{Figures}
-use Rattle.calculation.specs.Penalties.{penalty}
+use Rattle.calculation.specs.Penalties.{penalty, day_of_security}
 
 pub worked : Figures
-unfolding penalty
+unfolding penalty day_of_security
 worked = record {
   deliverer_fails = refl;
   receiver_fails = refl;

@@ -8,7 +8,9 @@ use Rattle.sheets.specs.declared.fault.Rule.TheVariants.{ReasonsUnlawful, NoUsed
 use Rattle.sheets.specs.declared.fault.Layer.TheVariants.{Book, Calculation}
 use Rattle.sheets.specs.declared.sheet.SecuritySheet.{SecuritySheet}
 use Rattle.sheets.specs.declared.sheet.CurrencySheet.{CurrencySheet}
-use Rattle.sheets.specs.Limits.{greatest_price}
+use Rattle.sheets.specs.declared.units.Currency.{Currency}
+use Rattle.sheets.specs.declared.units.Rate.{Rate}
+use Rattle.sheets.specs.Limits.{greatest_price, last_currency}
 use Rattle.sheets.specs.Refusals.{fault}
 use Rattle.reference.specs.Meaning.{Sheets}
 use Rattle.reports.specs.declared.report.Report.{Report}
@@ -20,19 +22,25 @@ use Rattle.calculation.specs.declared.charge.Charges.{Charges}
 use Rattle.calculation.specs.declared.charge.Charges.TheVariants.{One, Two}
 use Rattle.calculation.specs.Charging.{charges_of}
 
+abbrev pub currency : (number : ℕ) → number ≤ last_currency → Currency
+currency number h = record { number = number; limit = h }
+
+abbrev pub cash_rate : Rate
+cash_rate = record { number = 6000; limit = lit≤ tt }
+
 -- a price in its limits, in euro (0) or krone (1)
 abbrev pub euro_sheet : (price : ℕ) → Class → (1 ≤ price) × (price ≤ greatest_price) → SecuritySheet
-euro_sheet price class p = record { price = price; currency = 0; class = class; priced = p; coined = lit≤ tt }
+euro_sheet price class p = record { price = price; currency = currency 0 (lit≤ tt); class = class; priced = p }
 
 abbrev pub krone_sheet : (price : ℕ) → Class → (1 ≤ price) × (price ≤ greatest_price) → SecuritySheet
-krone_sheet price class p = record { price = price; currency = 1; class = class; priced = p; coined = lit≤ tt }
+krone_sheet price class p = record { price = price; currency = currency 1 (lit≤ tt); class = class; priced = p }
 
 -- both currencies at a cash rate of 0.00006000, the krone worth 0.134000 euro
 abbrev pub euro : CurrencySheet
-euro = record { currency = 0; rate = 6000; value = 1000000; coined = lit≤ tt; rated = lit≤ tt; valued = (lit≤ tt, lit≤ tt) }
+euro = record { currency = currency 0 (lit≤ tt); rate = cash_rate; value = 1000000; valued = (lit≤ tt, lit≤ tt) }
 
 abbrev pub krone : CurrencySheet
-krone = record { currency = 1; rate = 6000; value = 134000; coined = lit≤ tt; rated = lit≤ tt; valued = (lit≤ tt, lit≤ tt) }
+krone = record { currency = currency 1 (lit≤ tt); rate = cash_rate; value = 134000; valued = (lit≤ tt, lit≤ tt) }
 
 -- one sheet for every security and day
 abbrev pub sheets_with : SecuritySheet → Sheets

@@ -57,7 +57,7 @@ euro_value c (Some s) = cond (c == 0) 1000000 s.value
 
 abbrev pub rate_of : Option CurrencySheet → ℕ
 rate_of None = 0
-rate_of (Some s) = s.rate
+rate_of (Some s) = s.rate.number
 
 abbrev pub cash_part : Terms → ℕ → ℕ
 cash_part t rate = cond (has_cash_part t.kind) (part (100 * t.cash) rate 1 1) 0
@@ -72,34 +72,34 @@ price_value priced currency q = cond (priced == currency) 1 (euro_value priced q
 abbrev pub penalty_value : ℕ → ℕ → Option CurrencySheet → ℕ
 penalty_value priced currency p = cond (priced == currency) 1 (euro_value currency p)
 
--- the security part by its sheet s, the penalty currency's sheet p and the price currency's sheet q
-abbrev pub security_part : Terms → Side → ℕ → SecuritySheet → Option CurrencySheet → Option CurrencySheet → ℕ
-security_part t side currency s p q =
-    part (t.quantity * s.price) (security_rate t side s p) (price_value s.currency currency q) (penalty_value s.currency currency p)
+-- the security part of a worth, by the security's sheet s, the penalty currency's sheet p and the price currency's sheet q
+abbrev pub security_part : Terms → Side → ℕ → ℕ → SecuritySheet → Option CurrencySheet → Option CurrencySheet → ℕ
+security_part t side currency worth s p q =
+    part worth (security_rate t side s p) (price_value s.currency.number currency q) (penalty_value s.currency.number currency p)
 
 -- all parts of one day
-abbrev pub parts_of : Terms → Side → ℕ → SecuritySheet → Option CurrencySheet → Option CurrencySheet → ℕ
-parts_of t side currency s p q = security_part t side currency s p q + cash_part t (rate_of p)
+abbrev pub parts_of : Terms → Side → ℕ → ℕ → SecuritySheet → Option CurrencySheet → Option CurrencySheet → ℕ
+parts_of t side currency worth s p q = security_part t side currency worth s p q + cash_part t (rate_of p)
 
 -- a worth above its limit is a fault
 abbrev pub worth_refusal : ℕ → ℕ → ℕ → Option Fault
 worth_refusal security day worth = when (nat_lt greatest_worth worth) (fault ValueTooLarge Calculation security day) None
 
--- the parts of one used day
-abbrev pub day_of_security : Terms → Side → ℕ → ℕ → Steps ℕ
-day_of_security t side currency day =
-    reads_security t.security day (λ s.
-    sheet_if (needs_penalty_sheet t.kind side s.currency currency) currency day >>= (λ p.
-    sheet_if (needs_price_sheet s.currency currency) s.currency day >>= (λ q.
-    cond (nat_lt greatest_worth (t.quantity * s.price))
-    (too_large t.security day)
-    (gives (parts_of t side currency s p q)))))
+-- the parts of one used day of so many of a security
+unfoldable pub day_of_security : Terms → Side → ℕ → ℕ → ℕ → ℕ → Steps ℕ
+day_of_security t side currency security quantity day =
+    reads_security security day (λ s.
+    sheet_if (needs_penalty_sheet t.kind side s.currency.number currency) currency day >>= (λ p.
+    sheet_if (needs_price_sheet s.currency.number currency) s.currency.number day >>= (λ q.
+    cond (nat_lt greatest_worth (quantity * s.price))
+    (too_large security day)
+    (gives (parts_of t side currency (quantity * s.price) s p q)))))
 
 abbrev pub day_of_cash : Terms → ℕ → ℕ → Steps ℕ
-day_of_cash t currency day = reads_currency currency day (λ p. gives (cash_part t p.rate))
+day_of_cash t currency day = reads_currency currency day (λ p. gives (cash_part t p.rate.number))
 
 abbrev pub day_of : Terms → Side → ℕ → ℕ → Steps ℕ
-day_of t side currency day = cond (has_security_part t.kind) (day_of_security t side currency day) (day_of_cash t currency day)
+day_of t side currency day = cond (has_security_part t.kind) (day_of_security t side currency t.security t.quantity day) (day_of_cash t currency day)
 
 -- a sum, with one more amount or its fault
 abbrev pub plus : ℕ → Result ℕ Fault → Result ℕ Fault
@@ -128,7 +128,7 @@ free_currency opted t priced = cond (priced == 1 && (is_opted opted t.deliverer 
 abbrev pub currency_of : List Bool → Terms → List ℕ → Steps ℕ
 currency_of opted t days =
     cond (is_free t.kind)
-    (reads_security t.security (last_or 0 days) (λ s. gives (free_currency opted t s.currency)))
+    (reads_security t.security (last_or 0 days) (λ s. gives (free_currency opted t s.currency.number)))
     (gives t.currency)
 
 -- the whole calculation of one side's penalty

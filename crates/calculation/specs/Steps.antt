@@ -1,5 +1,5 @@
 -- What a penalty reads, in order, and what it gives: an answer or a fault.
-use Rattle.std.specs.Prelude.{ℕ, List, [], ◌∷◌, Some, None, Ok, Err, Option, Result}
+use Rattle.std.specs.Prelude.{◌≡◌, ℕ, List, [], ◌∷◌, Some, None, Ok, Err, Option, Result, MatchResult}
 use Rattle.sheets.specs.declared.fault.Fault.{Fault}
 use Rattle.sheets.specs.declared.fault.Rule.TheVariants.{SecurityMissing, CurrencyMissing, ValueTooLarge}
 use Rattle.sheets.specs.declared.fault.Layer.TheVariants.{Calculation}
@@ -39,6 +39,10 @@ result_of t (gives a) = Ok a
 result_of t (too_large k d) = Err (fault ValueTooLarge Calculation k d)
 result_of t (reads_security k d rest) = found (t.securities k d) (Err (fault SecurityMissing Calculation k d)) (λ s. result_of t (rest s))
 result_of t (reads_currency k d rest) = found (t.currencies k d) (Err (fault CurrencyMissing Calculation k d)) (λ s. result_of t (rest s))
+
+-- the steps come to the number of what the code made, or to its fault
+abbrev pub ComesTo : {A : Type 0} → (A → ℕ) → Sheets → Steps ℕ → Result A Fault → Type 0
+ComesTo number t steps r = MatchResult r (λ a. result_of t steps ≡ Ok (number a)) (λ f. result_of t steps ≡ Err f)
 
 -- a sheet that was asked for: which kind, its number and the day
 pub data Read : Type 0 where

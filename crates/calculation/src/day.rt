@@ -1,123 +1,111 @@
 // What one used day reads and comes to.
-ghost use Rattle.std.specs.Prelude.{◌≡◌, ◌*◌, ◌^◌, ◌<◌, ◌≤◌, IfOk};
-ghost use Rattle.sheets.specs.Limits.{greatest_worth};
+ghost use Rattle.std.specs.Prelude.{◌≡◌, ◌*◌};
 ghost use Rattle.sheets.specs.Refusals.{Answers};
-ghost use Rattle.calculation.specs.Steps.{result_of, reads_security, gives};
+ghost use Rattle.calculation.specs.Steps.{result_of, reads_security, reads_currency, gives, ComesTo};
 ghost use Rattle.reference.specs.Meaning.{answers};
 ghost use Rattle.reports.specs.Terms.{terms_of};
-ghost use Rattle.calculation.specs.Penalties.{sheet_if, worth_refusal, day_of_security, day_of_cash, day_of};
+ghost use Rattle.calculation.specs.Penalties.{sheet_if, worth_refusal, day_of_security, day_of};
 
-use crate::parts::{
-    cash_alone, has_security_part, needs_penalty_sheet, needs_price_sheet, parts_of,
-};
+use crate::amounts::{Amount, Worth};
+use crate::parts::Penalty;
 use reference::raw;
 use reference::source::Source;
-use reports::report::{Side, Trade};
+use reports::report::{Exchange, Securities};
 use sheets::fault::{Fault, Layer, Rule};
 use sheets::limits::GREATEST_WORTH;
 use sheets::sheet::{CurrencySheet, SecuritySheet};
+use sheets::units::{Currency, Security};
 
-pub(crate) fn sheet_of<S: Source>(
+// A function for each kind of sheet, as the source has.
+pub(crate) fn security_sheet<S: Source>(
     source: &S,
-    security: u16,
+    security: Security,
     day: u16,
 ) -> Result<SecuritySheet, Fault>
-    ensures value { result ≡ result_of (answers (S.meaning source.now)) (reads_security security day gives) }
+    ensures value { result ≡ result_of (answers (S.meaning source.now)) (reads_security security.number day gives) }
 {
-    match raw::security(source, security, day) {
-        Some(s) => Ok(s),
-        None => Err(Fault {
-            rule: Rule::SecurityMissing,
-            layer: Layer::Calculation,
-            place: (security as u64, day as u64),
-        }),
-    }
+    raw::security(source, security.number, day).ok_or_else(|| Layer::Calculation.refuses(
+        Rule::SecurityMissing,
+        u64::from(security.number),
+        u64::from(day),
+    ))
+}
+
+fn currency_sheet<S: Source>(
+    source: &S,
+    currency: Currency,
+    day: u16,
+) -> Result<CurrencySheet, Fault>
+    ensures value { result ≡ result_of (answers (S.meaning source.now)) (reads_currency currency.number day gives) }
+{
+    raw::currency(source, currency.number, day).ok_or_else(|| Layer::Calculation.refuses(
+        Rule::CurrencyMissing,
+        u64::from(currency.number),
+        u64::from(day),
+    ))
 }
 
 fn sheet_if<S: Source>(
     source: &S,
     needed: bool,
-    currency: u8,
+    currency: Currency,
     day: u16,
 ) -> Result<Option<CurrencySheet>, Fault>
-    ensures value { result ≡ result_of (answers (S.meaning source.now)) (sheet_if needed currency day) }
+    ensures value { result ≡ result_of (answers (S.meaning source.now)) (sheet_if needed currency.number day) }
 {
-    if !needed {
-        return Ok(None);
-    }
-    match raw::currency(source, currency, day) {
-        Some(s) => Ok(Some(s)),
-        None => Err(Fault {
-            rule: Rule::CurrencyMissing,
-            layer: Layer::Calculation,
-            place: (currency as u64, day as u64),
-        }),
-    }
+    needed
+        .then(|| currency_sheet(source, currency, day))
+        .transpose()
 }
 
 // What the securities are worth at the day's price, or the fault that this is too much.
-fn worth_of(trade: Trade, price: u32, day: u16) -> Result<u64, Fault>
-    ensures value { Answers (worth_refusal trade.security day (trade.quantity * price)) result (λ v. v ≡ trade.quantity * price) }
-    ensures bound { IfOk result (λ v. v ≤ greatest_worth) }
+fn worth_of(securities: Securities, price: u32, day: u16) -> Result<Worth, Fault>
+    ensures value { Answers (worth_refusal securities.security.number day (securities.quantity * price)) result (λ w. w.number ≡ securities.quantity * price) }
 {
-    let worth = trade.quantity as u64 * price as u64;
-    if worth > GREATEST_WORTH {
-        return Err(Fault {
-            rule: Rule::ValueTooLarge,
-            layer: Layer::Calculation,
-            place: (trade.security as u64, day as u64),
-        });
+    let number = u64::from(securities.quantity) * u64::from(price);
+    if number > GREATEST_WORTH {
+        return Err(Layer::Calculation.refuses(
+            Rule::ValueTooLarge,
+            u64::from(securities.security.number),
+            u64::from(day),
+        ));
     }
-    Ok(worth)
+    Ok(Worth { number })
 }
 
-fn day_of_security<S: Source>(
-    source: &S,
-    trade: Trade,
-    side: Side,
-    currency: u8,
-    day: u16,
-) -> Result<u64, Fault>
-    ensures value { result ≡ result_of (answers (S.meaning source.now)) (day_of_security (terms_of trade) side currency day) }
-    ensures bound { IfOk result (λ a. a ≤ 2 * 10 ^ 16) }
-{
-    let s = sheet_of(source, trade.security, day)?;
-    let penalty = needs_penalty_sheet(trade.kind, side, s.currency, currency);
-    let p = sheet_if(source, penalty, currency, day)?;
-    let price = needs_price_sheet(s.currency, currency);
-    let q = sheet_if(source, price, s.currency, day)?;
-    let worth = worth_of(trade, s.price, day)?;
-    Ok(parts_of(trade, side, currency, s, p, q, worth))
-}
-
-fn day_of_cash<S: Source>(source: &S, trade: Trade, currency: u8, day: u16) -> Result<u64, Fault>
-    ensures value { result ≡ result_of (answers (S.meaning source.now)) (day_of_cash (terms_of trade) currency day) }
-    ensures bound { IfOk result (λ a. a ≤ 2 * 10 ^ 16) }
-{
-    match raw::currency(source, currency, day) {
-        Some(s) => Ok(cash_alone(trade, s)),
-        None => Err(Fault {
-            rule: Rule::CurrencyMissing,
-            layer: Layer::Calculation,
-            place: (currency as u64, day as u64),
-        }),
+impl Penalty {
+    #[tactic(auto, using(crate::proofs::DaySteps::day_answers, crate::proofs::Binding::result_bind))]
+    fn day_of_security<S: Source>(
+        self,
+        source: &S,
+        securities: Securities,
+        day: u16,
+    ) -> Result<Amount, Fault>
+        ensures value { ComesTo (λ a. a.number) (answers (S.meaning source.now)) (day_of_security (terms_of self.trade) self.side self.currency.number securities.security.number securities.quantity day) result }
+    {
+        let sheet = security_sheet(source, securities.security, day)?;
+        let priced = sheet.currency;
+        let own = sheet_if(source, self.needs_penalty_sheet(priced), self.currency, day)?;
+        let price = sheet_if(source, self.needs_price_sheet(priced), priced, day)?;
+        let worth = worth_of(securities, sheet.price, day)?;
+        Ok(self.parts(worth, sheet, own, price))
     }
-}
 
-// What one used day comes to.
-pub(crate) fn day_of<S: Source>(
-    source: &S,
-    trade: Trade,
-    side: Side,
-    currency: u8,
-    day: u16,
-) -> Result<u64, Fault>
-    ensures value { result ≡ result_of (answers (S.meaning source.now)) (day_of (terms_of trade) side currency day) }
-    ensures bound { IfOk result (λ a. a ≤ 2 * 10 ^ 16) }
-{
-    if has_security_part(trade.kind) {
-        day_of_security(source, trade, side, currency, day)
-    } else {
-        day_of_cash(source, trade, currency, day)
+    // What one used day comes to.
+    pub(crate) fn day_of<S: Source>(self, source: &S, day: u16) -> Result<Amount, Fault>
+        ensures value { ComesTo (λ a. a.number) (answers (S.meaning source.now)) (day_of (terms_of self.trade) self.side self.currency.number day) result }
+    {
+        match self.trade.exchange {
+            Exchange::AgainstPayment(securities, _)
+            | Exchange::FreeOfPayment(securities)
+            | Exchange::WithPayment(securities, _) => self.day_of_security(source, securities, day),
+            Exchange::PaymentOnly(_) => {
+                let sheet = currency_sheet(source, self.currency, day)?;
+                let part = self.cash_part(sheet.rate);
+                Ok(Amount {
+                    number: part.number,
+                })
+            }
+        }
     }
 }

@@ -1,109 +1,81 @@
 // A penalty's currency and amount.
-ghost use Rattle.std.specs.Prelude.{◌≡◌, ◌+◌, ◌-◌, ◌*◌, ◌^◌, ◌<◌, ◌≤◌, IfOk, if◌then◌else◌, Ok};
-ghost use Rattle.reports.specs.Days.{is_business, days_between};
-ghost use Rattle.calculation.specs.Steps.{result_of};
+ghost use Rattle.std.specs.Prelude.{◌≡◌};
+ghost use Rattle.reports.specs.Days.{days_of};
+ghost use Rattle.calculation.specs.Steps.{result_of, ComesTo};
 ghost use Rattle.reference.specs.Meaning.{answers};
 ghost use Rattle.reports.specs.Terms.{terms_of};
-ghost use Rattle.calculation.specs.Penalties.{is_opted, free_currency, is_free, currency_of, day_of, plus, sum_of, penalty};
+ghost use Rattle.calculation.specs.Penalties.{is_opted, free_currency, currency_of, day_of, sum_of, penalty};
 
+use crate::basis::Basis;
 use crate::charge::Figure;
-use crate::day::{day_of, sheet_of};
+use crate::day::security_sheet;
+use crate::parts::{EURO, KRONE, Penalty};
 use reference::source::Source;
-use reports::calendar::Calendar;
-use reports::days::last_day;
-use reports::report::{Kind, Side, Trade};
+use reports::report::{Exchange, Side, Trade};
 use sheets::fault::Fault;
+use sheets::units::{Currency, Party};
 
-fn is_opted(opted: &[bool; 90], party: u16) -> bool
-    requires { (1000 ≤ party) × (party ≤ 9999) }
-    ensures value { result ≡ is_opted opted.now party }
+fn is_opted(opted: &[bool; 90], party: Party) -> bool
+    ensures value { result ≡ is_opted opted.now party.number }
 {
-    opted[(party / 100 - 10) as usize]
+    opted[usize::from(party.number / 100 - 10)]
 }
 
-fn free_currency(opted: &[bool; 90], trade: Trade, priced: u8) -> u8
-    ensures value { result ≡ free_currency opted.now (terms_of trade) priced }
+fn free_currency(opted: &[bool; 90], trade: Trade, priced: Currency) -> Currency
+    ensures value { result.number ≡ free_currency opted.now (terms_of trade) priced.number }
 {
-    if priced == 1 && (is_opted(opted, trade.deliverer) || is_opted(opted, trade.receiver)) {
-        1
+    if priced == KRONE && (is_opted(opted, trade.deliverer) || is_opted(opted, trade.receiver)) {
+        KRONE
     } else {
-        0
+        EURO
     }
 }
 
-fn is_free(kind: Kind) -> bool
-    ensures value { result ≡ is_free kind }
-{
-    match kind {
-        Kind::FreeOfPayment => true,
-        _ => false,
+impl<S: Source> Basis<'_, S> {
+    fn currency_of(&self, trade: Trade) -> Result<Currency, Fault>
+        ensures value { ComesTo (λ c. c.number) (answers (S.meaning self.now.source.now)) (currency_of self.now.opted.now (terms_of trade) (days_of self.now.calendar.now.business trade.span)) result }
+    {
+        match trade.exchange {
+            Exchange::AgainstPayment(_, cash)
+            | Exchange::WithPayment(_, cash)
+            | Exchange::PaymentOnly(cash) => Ok(cash.currency),
+            Exchange::FreeOfPayment(securities) => {
+                let last = self.calendar.last_day(trade.span);
+                let sheet = security_sheet(self.source, securities.security, last)?;
+                Ok(free_currency(self.opted, trade, sheet.currency))
+            }
+        }
     }
-}
 
-fn currency_of<S: Source>(
-    source: &S,
-    calendar: &Calendar,
-    opted: &[bool; 90],
-    trade: Trade,
-) -> Result<u8, Fault>
-    ensures value { result ≡ result_of (answers (S.meaning source.now)) (currency_of opted.now (terms_of trade) (days_between calendar.now.business trade.span.from trade.span.end)) }
-{
-    if !is_free(trade.kind) {
-        return Ok(trade.currency);
+    #[tactic(auto, using(crate::proofs::Sums::sum_take, crate::proofs::Sums::sum_skip, crate::proofs::Sums::sum_stop))]
+    fn amount_of(&self, penalty: Penalty) -> Result<u64, Fault>
+        ensures value { result ≡ result_of (answers (S.meaning self.now.source.now)) (sum_of (day_of (terms_of penalty.trade) penalty.side penalty.currency.number) (days_of self.now.calendar.now.business penalty.trade.span)) }
+    {
+        let span = penalty.trade.span;
+        let mut sum = 0;
+        // A `for` with `?` is the plain form of a sum whose steps may fail.
+        for day in span.from..span.end {
+            if self.calendar.is_business(day) {
+                sum += penalty.day_of(self.source, day)?.number;
+            }
+        }
+        Ok(sum)
     }
-    let last = last_day(calendar, trade.span);
-    let s = sheet_of(source, trade.security, last)?;
-    Ok(free_currency(opted, trade, s.currency))
-}
 
-// The sum after the day d, which counts only if it is a business day.
-fn with_day<S: Source>(
-    source: &S,
-    calendar: &Calendar,
-    trade: Trade,
-    side: Side,
-    currency: u8,
-    sum: u64,
-    d: u16,
-) -> Result<u64, Fault>
-    requires { (d < 372) × (sum ≤ 2 * 10 ^ 16 * d) }
-    ensures value { result ≡ (if is_business calendar.now.business d then plus sum (result_of (answers (S.meaning source.now)) (day_of (terms_of trade) side currency d)) else Ok sum) }
-    ensures bound { IfOk result (λ a. a ≤ 2 * 10 ^ 16 * (d + 1)) }
-{
-    if !calendar.business[d as usize] {
-        return Ok(sum);
+    // The currency and amount of one penalty, or the first fault.
+    #[tactic(auto, using(crate::proofs::Binding::result_bind), unfolding(crate::specs::Penalties::penalty))]
+    pub(crate) fn figure_of(&self, trade: Trade, side: Side) -> Result<Figure, Fault>
+        ensures value { result ≡ result_of (answers (S.meaning self.now.source.now)) (penalty self.now.opted.now (terms_of trade) side (days_of self.now.calendar.now.business trade.span)) }
+    {
+        let currency = self.currency_of(trade)?;
+        let amount = self.amount_of(Penalty {
+            trade,
+            side,
+            currency,
+        })?;
+        Ok(Figure {
+            currency: currency.number,
+            amount,
+        })
     }
-    let amount = day_of(source, trade, side, currency, d)?;
-    Ok(sum + amount)
-}
-
-fn amount_of<S: Source>(
-    source: &S,
-    calendar: &Calendar,
-    trade: Trade,
-    side: Side,
-    currency: u8,
-) -> Result<u64, Fault>
-    ensures value { result ≡ result_of (answers (S.meaning source.now)) (sum_of (day_of (terms_of trade) side currency) (days_between calendar.now.business trade.span.from trade.span.end)) }
-{
-    let mut sum = 0;
-    for d in trade.span.from..trade.span.end {
-        sum = with_day(source, calendar, trade, side, currency, sum, d)?;
-    }
-    Ok(sum)
-}
-
-// The currency and amount of one penalty, or the first fault.
-pub(crate) fn figure_of<S: Source>(
-    source: &S,
-    calendar: &Calendar,
-    opted: &[bool; 90],
-    trade: Trade,
-    side: Side,
-) -> Result<Figure, Fault>
-    ensures value { result ≡ result_of (answers (S.meaning source.now)) (penalty opted.now (terms_of trade) side (days_between calendar.now.business trade.span.from trade.span.end)) }
-{
-    let currency = currency_of(source, calendar, opted, trade)?;
-    let amount = amount_of(source, calendar, trade, side, currency)?;
-    Ok(Figure { currency, amount })
 }

@@ -1,159 +1,134 @@
 // The parts of one day.
-ghost use Rattle.std.specs.Prelude.{◌≡◌, ◌+◌, ◌*◌, ◌^◌, ◌<◌, ◌≤◌};
-ghost use Rattle.sheets.specs.Limits.{greatest_rate, greatest_worth};
-ghost use Rattle.reports.specs.Terms.{terms_of};
-ghost use Rattle.calculation.specs.Penalties.{by_cash_rate, has_security_part, has_cash_part, needs_penalty_sheet, needs_price_sheet, euro_value, rate_of, cash_part, security_rate, price_value, penalty_value, security_part, parts_of};
+ghost use Rattle.std.specs.Prelude.{◌≡◌, ◌^◌, ◌≤◌};
+ghost use Rattle.reports.specs.Terms.{exchange_kind, terms_of};
+ghost use Rattle.calculation.specs.Penalties.{by_cash_rate, has_cash_part, needs_penalty_sheet, needs_price_sheet, euro_value, rate_of, cash_part, security_rate, price_value, penalty_value, parts_of};
 
-use crate::conversion::Conversion;
-use crate::rounding::part_of;
-use reports::report::{Kind, Side, Trade};
+use crate::amounts::{Amount, Conversion, Part, Worth};
+use reports::report::{Exchange, Side, Trade};
 use sheets::sheet::{CurrencySheet, SecuritySheet};
+use sheets::units::{Currency, Rate};
+
+pub(crate) const EURO: Currency = Currency { number: 0 };
+
+pub(crate) const KRONE: Currency = Currency { number: 1 };
 
 // What a euro is worth, in millionths of a euro.
-const EURO: u32 = 1_000_000;
+const EURO_VALUE: u32 = 1_000_000;
 
-fn by_cash_rate(kind: Kind, side: Side) -> bool
-    ensures value { result ≡ by_cash_rate kind side }
-{
-    match (kind, side) {
-        (Kind::AgainstPayment, Side::Receiver) => true,
-        _ => false,
-    }
+// One side's penalty of a trade, in its currency. Nothing compares penalties.
+#[derive(Clone, Copy)]
+pub(crate) struct Penalty {
+    pub(crate) trade: Trade,
+    pub(crate) side: Side,
+    pub(crate) currency: Currency,
 }
 
-pub(crate) fn has_security_part(kind: Kind) -> bool
-    ensures value { result ≡ has_security_part kind }
-{
-    match kind {
-        Kind::PaymentOnly => false,
-        _ => true,
-    }
-}
-
-fn has_cash_part(kind: Kind) -> bool
-    ensures value { result ≡ has_cash_part kind }
-{
-    match kind {
-        Kind::WithPayment | Kind::PaymentOnly => true,
-        _ => false,
-    }
-}
-
-pub(crate) fn needs_penalty_sheet(kind: Kind, side: Side, priced: u8, currency: u8) -> bool
-    ensures value { result ≡ needs_penalty_sheet kind side priced currency }
-{
-    by_cash_rate(kind, side) || has_cash_part(kind) || (priced != currency && currency != 0)
-}
-
-pub(crate) fn needs_price_sheet(priced: u8, currency: u8) -> bool
-    ensures value { result ≡ needs_price_sheet priced currency }
-{
-    priced != currency && priced != 0
-}
-
-fn euro_value(currency: u8, sheet: Option<CurrencySheet>) -> u32
-    ensures value { result ≡ euro_value currency sheet }
+fn euro_value(currency: Currency, sheet: Option<CurrencySheet>) -> u32
+    ensures value { result ≡ euro_value currency.number sheet }
     ensures low { 1 ≤ result }
     ensures high { result ≤ 10 ^ 7 }
 {
     match sheet {
-        Some(s) if currency != 0 => s.value,
-        _ => EURO,
+        Some(sheet) if currency != EURO => sheet.value,
+        _ => EURO_VALUE,
     }
 }
 
-fn rate_of(sheet: Option<CurrencySheet>) -> u32
-    ensures value { result ≡ rate_of sheet }
-    ensures bound { result ≤ greatest_rate }
+// No rate, where no sheet was needed.
+fn rate_of(sheet: Option<CurrencySheet>) -> Rate
+    ensures value { result.number ≡ rate_of sheet }
 {
-    match sheet {
-        None => 0,
-        Some(s) => s.rate,
+    sheet.map_or(Rate { number: 0 }, |sheet| sheet.rate)
+}
+
+impl Penalty {
+    fn by_cash_rate(self) -> bool
+        ensures value { result ≡ by_cash_rate (exchange_kind self.trade.exchange) self.side }
+    {
+        matches!(self.trade.exchange, Exchange::AgainstPayment(..)) && self.side == Side::Receiver
     }
-}
 
-fn cash_part(trade: Trade, rate: u32) -> u64
-    requires { rate ≤ greatest_rate }
-    ensures value { result ≡ cash_part (terms_of trade) rate }
-    ensures bound { result ≤ 10 ^ 16 }
-{
-    if !has_cash_part(trade.kind) {
-        return 0;
+    fn has_cash_part(self) -> bool
+        ensures value { result ≡ has_cash_part (exchange_kind self.trade.exchange) }
+    {
+        matches!(
+            self.trade.exchange,
+            Exchange::WithPayment(..) | Exchange::PaymentOnly(_)
+        )
     }
-    part_of(100 * trade.cash, rate, Conversion { from: 1, into: 1 })
-}
 
-// The cash part alone, where no securities are exchanged.
-pub(crate) fn cash_alone(trade: Trade, sheet: CurrencySheet) -> u64
-    ensures value { result ≡ cash_part (terms_of trade) sheet.rate }
-    ensures bound { result ≤ 10 ^ 16 }
-{
-    cash_part(trade, sheet.rate)
-}
-
-fn security_rate(trade: Trade, side: Side, sheet: SecuritySheet, p: Option<CurrencySheet>) -> u32
-    ensures value { result ≡ security_rate (terms_of trade) side sheet p }
-    ensures bound { result ≤ greatest_rate }
-{
-    if by_cash_rate(trade.kind, side) {
-        rate_of(p)
-    } else {
-        sheet.class.rate()
+    pub(crate) fn needs_penalty_sheet(self, priced: Currency) -> bool
+        ensures value { result ≡ needs_penalty_sheet (exchange_kind self.trade.exchange) self.side priced.number self.currency.number }
+    {
+        self.by_cash_rate()
+            || self.has_cash_part()
+            || (priced != self.currency && self.currency != EURO)
     }
-}
 
-// From the price's currency, by its sheet q, into the penalty currency, by its sheet p.
-fn conversion_of(
-    priced: u8,
-    q: Option<CurrencySheet>,
-    currency: u8,
-    p: Option<CurrencySheet>,
-) -> Conversion
-    ensures from { result.from ≡ price_value priced currency q }
-    ensures into { result.into ≡ penalty_value priced currency p }
-{
-    if priced == currency {
-        return Conversion { from: 1, into: 1 };
+    pub(crate) fn needs_price_sheet(self, priced: Currency) -> bool
+        ensures value { result ≡ needs_price_sheet priced.number self.currency.number }
+    {
+        priced != self.currency && priced != EURO
     }
-    let from = euro_value(priced, q);
-    let into = euro_value(currency, p);
-    Conversion { from, into }
-}
 
-fn security_part(
-    trade: Trade,
-    side: Side,
-    currency: u8,
-    s: SecuritySheet,
-    p: Option<CurrencySheet>,
-    q: Option<CurrencySheet>,
-    worth: u64,
-) -> u64
-    requires { (worth ≡ trade.quantity * s.price) × (worth ≤ greatest_worth) }
-    ensures value { result ≡ security_part (terms_of trade) side currency s p q }
-    ensures bound { result ≤ 10 ^ 16 }
-{
-    let rate = security_rate(trade, side, s, p);
-    let by = conversion_of(s.currency, q, currency, p);
-    part_of(worth, rate, by)
-}
+    pub(crate) fn cash_part(self, rate: Rate) -> Part
+        ensures value { result.number ≡ cash_part (terms_of self.trade) rate.number }
+    {
+        match self.trade.exchange {
+            Exchange::WithPayment(_, cash) | Exchange::PaymentOnly(cash) => {
+                let worth = Worth {
+                    number: 100 * cash.amount,
+                };
+                worth.part(rate, Conversion { from: 1, into: 1 })
+            }
+            _ => Part { number: 0 },
+        }
+    }
 
-// The parts of a day, each rounded by itself, by the day's sheets.
-pub(crate) fn parts_of(
-    trade: Trade,
-    side: Side,
-    currency: u8,
-    s: SecuritySheet,
-    p: Option<CurrencySheet>,
-    q: Option<CurrencySheet>,
-    worth: u64,
-) -> u64
-    requires { (worth ≡ trade.quantity * s.price) × (worth ≤ greatest_worth) }
-    ensures value { result ≡ parts_of (terms_of trade) side currency s p q }
-    ensures bound { result ≤ 2 * 10 ^ 16 }
-{
-    let part = security_part(trade, side, currency, s, p, q, worth);
-    let rate = rate_of(p);
-    let cash = cash_part(trade, rate);
-    part + cash
+    fn security_rate(self, sheet: SecuritySheet, own: Option<CurrencySheet>) -> Rate
+        ensures value { result.number ≡ security_rate (terms_of self.trade) self.side sheet own }
+    {
+        if self.by_cash_rate() {
+            rate_of(own)
+        } else {
+            sheet.class.rate()
+        }
+    }
+
+    // From the price's currency into the penalty's own, by their sheets.
+    fn conversion(
+        self,
+        priced: Currency,
+        own: Option<CurrencySheet>,
+        price: Option<CurrencySheet>,
+    ) -> Conversion
+        ensures from { result.from ≡ price_value priced.number self.currency.number price }
+        ensures into { result.into ≡ penalty_value priced.number self.currency.number own }
+    {
+        if priced == self.currency {
+            return Conversion { from: 1, into: 1 };
+        }
+        let from = euro_value(priced, price);
+        let into = euro_value(self.currency, own);
+        Conversion { from, into }
+    }
+
+    // The parts of a day, each rounded by itself: of the security's worth, and of the cash.
+    pub(crate) fn parts(
+        self,
+        worth: Worth,
+        sheet: SecuritySheet,
+        own: Option<CurrencySheet>,
+        price: Option<CurrencySheet>,
+    ) -> Amount
+        ensures value { result.number ≡ parts_of (terms_of self.trade) self.side self.currency.number worth.number sheet own price }
+    {
+        let rate = self.security_rate(sheet, own);
+        let by = self.conversion(sheet.currency, own, price);
+        let security = worth.part(rate, by);
+        let cash = self.cash_part(rate_of(own));
+        Amount {
+            number: security.number + cash.number,
+        }
+    }
 }

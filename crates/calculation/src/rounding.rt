@@ -1,25 +1,26 @@
 // A part of a penalty, rounded to the nearest twice.
-ghost use Rattle.std.specs.Prelude.{◌≡◌, ◌+◌, ◌*◌, ◌/◌, ◌^◌, ◌≤◌};
-ghost use Rattle.sheets.specs.Limits.{greatest_worth, greatest_rate};
+ghost use Rattle.std.specs.Prelude.{◌≡◌, ◌^◌, ◌≤◌};
 ghost use Rattle.calculation.specs.Rounding.{whole, part};
 
-use crate::conversion::Conversion;
+use crate::amounts::{Conversion, Part, Worth};
+use sheets::units::Rate;
 
-// A worth at a rate, in thousandths of a hundredth.
-pub(crate) fn whole_of(worth: u64, rate: u32) -> u64
-    requires { (worth ≤ greatest_worth) × (rate ≤ greatest_rate) }
-    ensures value { result ≡ whole worth rate }
-    ensures bound { result ≤ 10 ^ 11 }
-{
-    (worth * (rate as u64) + 5_000_000) / 10_000_000
-}
+impl Worth {
+    // At a rate, in thousandths of a hundredth.
+    pub(crate) fn at(self, rate: Rate) -> u64
+        ensures value { result ≡ whole self.number rate.number }
+        ensures bound { result ≤ 10 ^ 11 }
+    {
+        (self.number * u64::from(rate.number) + 5_000_000) / 10_000_000
+    }
 
-pub(crate) fn part_of(worth: u64, rate: u32, by: Conversion) -> u64
-    requires { (worth ≤ greatest_worth) × (rate ≤ greatest_rate) }
-    ensures value { result ≡ part worth rate by.from by.into }
-    ensures bound { result ≤ 10 ^ 16 }
-{
-    let w = whole_of(worth, rate);
-    let into = by.into as u64;
-    (w * (by.from as u64) + 500 * into) / (1000 * into)
+    pub(crate) fn part(self, rate: Rate, by: Conversion) -> Part
+        ensures value { result.number ≡ part self.number rate.number by.from by.into }
+    {
+        let whole = self.at(rate);
+        let into = u64::from(by.into);
+        Part {
+            number: (whole * u64::from(by.from) + 500 * into) / (1000 * into),
+        }
+    }
 }

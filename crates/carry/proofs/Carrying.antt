@@ -1,5 +1,5 @@
 -- Of the latest sheet, of the silence after a day, and of an entry below a carry.
-use Rattle.std.proofs.Common.{◌≡◌, ℕ, zero, suc, ◌+◌, ◌-◌, ◌<◌, ◌≤◌, true, false, ltb, ◌⊎◌, is_some, Some, None, Option, sym, refl, ap, ◌∙◌, subst, inl, inr, ⊎_elim, not-suc-le-zero, sub-one, arith}
+use Rattle.std.proofs.Common.{◌≡◌, ℕ, zero, suc, ◌+◌, ◌-◌, ◌<◌, ◌≤◌, true, false, ltb, ◌⊎◌, is_some, Some, None, Option, sym, refl, ap, ◌∙◌, subst, inl, inr, ⊎_elim, arith}
 use Rattle.std.proofs.lemmas.Bool.{both_ways, cases_Bool, cases_lt, cases_order, cond-true, cond-false, and_parts, and_from, ltb-true, lt-ltb, not-true, not_from_false}
 use Rattle.sheets.specs.Limits.{last_day}
 use Rattle.reference.specs.Meaning.{Table, Taken}
@@ -14,10 +14,6 @@ module _ {T : Type 0} where
   pub latest_found : (t : ℕ → Option T) (n d : ℕ) (s : T) → t d ≡ Some s → latest t n d ≡ Some s
   latest_found t zero d s h = h
   latest_found t (suc n) d s h = rw h refl
-
-  pub latest_back : (t : ℕ → Option T) (n d : ℕ) → 0 < n → t d ≡ None → latest t n d ≡ latest t (n - 1) (d - 1)
-  latest_back t zero d l h = absurd (not-suc-le-zero l)
-  latest_back t (suc n) d l h = rw h (ap (λ m. latest t m (d - 1)) (sym (sub-one (suc n))))
 
   -- Two tables that agree from the day m to the day d have the same latest sheet at d, if the days asked begin at m or
   -- later, or the day m has a sheet.
@@ -48,10 +44,6 @@ module _ {T : Type 0} where
   pub spread_stops : (t : ℕ → Option T) (n e : ℕ) → silent t e ≡ false → spread t n e ≡ e
   spread_stops t zero e h = refl
   spread_stops t (suc n) e h = cond-false (silent t e) _ _ h
-
-  pub spread_on : (t : ℕ → Option T) (n e : ℕ) → 0 < n → silent t e ≡ true → spread t n e ≡ spread t (n - 1) (e + 1)
-  spread_on t zero e l h = absurd (not-suc-le-zero l)
-  spread_on t (suc n) e l h = cond-true (silent t e) _ _ h ∙ ap (λ m. spread t m (e + 1)) (sym (sub-one (suc n)))
 
   -- two tables that agree after e are silent for as long
   pub spread_agree : (t u : ℕ → Option T) (n e : ℕ) → ((x : ℕ) → e < x → x ≤ last_day → u x ≡ t x) → spread u n e ≡ spread t n e
@@ -148,5 +140,8 @@ module _ {T : Type 0} where
   pub carry_to : (b a : Table T) (k d : ℕ) (s : T) (e n r : ℕ) → Taken b a k d s e → r ≡ spread (a.sheet k) n e → Taken (carried b n) (carried a n) k d s r
   carry_to b a k d s e n r t h = subst (Taken (carried b n) (carried a n) k d s) (sym h) (carry_taken b a k d s e n t)
 
-  pub taken_to : (b a : Table T) (k d : ℕ) (s : T) (e : ℕ) → Taken b a k d s e → Taken b a k d s (b.reach k d s)
-  taken_to b a k d s e t = subst (Taken b a k d s) t.reached t
+  -- the carry's last day is the greatest to which no later sheet stands below
+  pub carry_greatest : (b a : Table T) (k d : ℕ) (s : T) (e n r : ℕ) → Taken b a k d s e → r ≡ spread (a.sheet k) n e → Greatest (b.sheet k) n (b.reach k d s) r
+  carry_greatest b a k d s e n r t h =
+      subst (Greatest (b.sheet k) n (b.reach k d s)) (sym (carry_to b a k d s e n r t h).reached)
+      (spread_greatest (b.sheet k) n (b.reach k d s) (omega (arith, t.reached, t.high)))

@@ -1,7 +1,8 @@
 -- The latest sheet is that of the latest day that has one.
 use Rattle.std.proofs.Common.{◌≡◌, ℕ, zero, suc, ◌-◌, Some, None, Option, refl, ap, ◌∙◌, ⊎_elim, arith}
 use Rattle.std.proofs.lemmas.Bool.{cases_order}
-use Rattle.carry.specs.Carried.{or_else, latest}
+use Rattle.std.specs.Option.{option_or}
+use Rattle.carry.specs.Carried.{latest}
 use Rattle.carry.specs.Laws.{IsLatest, LatestAt}
 
 module _ {T : Type 0} (t : ℕ → Option T) where
@@ -33,7 +34,7 @@ module _ {T : Type 0} (t : ℕ → Option T) where
         },
       )
 
-  either : (n d : ℕ) (o q : Option T) → t d ≡ o → IsLatest t n (d - 1) q → IsLatest t (suc n) d (or_else o q)
+  either : (n d : ℕ) (o q : Option T) → t d ≡ o → IsLatest t n (d - 1) q → IsLatest t (suc n) d (option_or o q)
   either n d (Some s) q e h = (d, on_the_day (suc n) d s e)
   either n d None q e h = before n d q e h
 

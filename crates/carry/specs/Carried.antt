@@ -1,17 +1,13 @@
 -- What carrying sheets forward means: the latest sheet, and how far an entry then reaches. Assumes nothing.
-use Rattle.std.specs.Prelude.{◌≡◌, ℕ, zero, suc, ◌+◌, ◌-◌, Bool, cond, not, ◌&&◌, is_some, Some, None, Option, nat_lt, refl}
+use Rattle.std.specs.Prelude.{◌≡◌, ℕ, zero, suc, ◌+◌, ◌-◌, Bool, cond, not, ◌&&◌, is_some, Option, nat_lt, refl}
+use Rattle.std.specs.Option.{option_or}
 use Rattle.sheets.specs.Limits.{last_day}
 use Rattle.reference.specs.Meaning.{Table}
-
--- the first, or if there is none the second
-abbrev pub or_else : {X : Type 0} → Option X → Option X → Option X
-or_else (Some x) o = Some x
-or_else None o = o
 
 -- the sheet of the latest day from d - n to d that has one
 abbrev pub latest : {T : Type 0} → (ℕ → Option T) → ℕ → ℕ → Option T
 latest t zero d = t d
-latest t (suc n) d = or_else (t d) (latest t n (d - 1))
+latest t (suc n) d = option_or (t d) (latest t n (d - 1))
 
 -- the day after e is in the year, and has no sheet
 abbrev pub silent : {T : Type 0} → (ℕ → Option T) → ℕ → Bool

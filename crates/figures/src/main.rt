@@ -1,7 +1,7 @@
 // Works through figures that are known by hand, and prints each.
 #![tactic(auto)]
 
-use calculation::charge::{Charge, Charges};
+use calculation::charge::Charges;
 use calculation::charges::charges;
 use carry::layer::Carry;
 use plain_rows::plain::PlainRows;
@@ -13,7 +13,7 @@ use reports::calendar::Calendar;
 use reports::open::{closed_year, open_days};
 use reports::report::{Cause, Report};
 use sheets::fault::Fault;
-use shows::Refusal;
+use shows::{Payment, Refusal};
 use std::io;
 use steps::entries::Steps;
 
@@ -22,25 +22,24 @@ const EURO: u8 = 0;
 const LIQUID: u8 = 1;
 
 fn entered<S: Source>(rt: &HostRuntime, source: &mut S, day: u16, price: u64) -> io::Result<()> {
-    let first = shows::Day(day as u64);
-    let shown = shows::Price(price);
+    let first = shows::Day(u64::from(day));
+    let shown = shows::Price { units: price };
     match file_security(source, 17, day, price, EURO, LIQUID) {
         Ok(last) => {
-            let last = shows::Day(last.number as u64);
+            let last = shows::Day(u64::from(last.number));
             println!(rt; "{first} entered at {shown}: reaches {last}")
         }
-        Err(fault) => {
-            let refusal = Refusal(fault);
-            println!(rt; "{first} entered at {shown}: {refusal}")
-        }
+        Err(fault) => println!(rt; "{first} entered at {shown}: {}", Refusal(fault)),
     }
 }
 
 fn asked<S: Source>(rt: &HostRuntime, source: &S, day: u16) -> io::Result<()> {
-    let shown = shows::Day(day as u64);
+    let shown = shows::Day(u64::from(day));
     match raw::security(source, 17, day) {
         Some(sheet) => {
-            let price = shows::Price(sheet.price as u64);
+            let price = shows::Price {
+                units: u64::from(sheet.price),
+            };
             println!(rt; "{shown} answers {price}")
         }
         None => println!(rt; "{shown} answers none"),
@@ -63,28 +62,14 @@ fn carried(rt: &HostRuntime) -> io::Result<()> {
     asked(rt, &source, 12)
 }
 
-fn charged(rt: &HostRuntime, charge: Charge) -> io::Result<()> {
-    let failing = charge.failing;
-    let other = charge.other;
-    let currency = shows::Currency(charge.currency as u64);
-    let amount = shows::Money(charge.amount);
-    print!(rt; " charge {failing} to {other} {currency} {amount}")
-}
-
 fn quoted(rt: &HostRuntime, answer: Result<Charges, Fault>) -> io::Result<()> {
     match answer {
-        Ok(Charges::One(charge)) => charged(rt, charge)?,
+        Ok(Charges::One(charge)) => println!(rt; " {}", Payment(charge)),
         Ok(Charges::Two(first, second)) => {
-            charged(rt, first)?;
-            print!(rt; " and")?;
-            charged(rt, second)?;
+            println!(rt; " {} and {}", Payment(first), Payment(second))
         }
-        Err(fault) => {
-            let refusal = Refusal(fault);
-            print!(rt; " {refusal}")?;
-        }
+        Err(fault) => println!(rt; " {}", Refusal(fault)),
     }
-    println!(rt)
 }
 
 fn all_year() -> Result<Calendar, Fault> {
@@ -117,10 +102,7 @@ fn rising() -> Result<Steps, Fault> {
     Ok(source)
 }
 
-fn late(rt: &HostRuntime, matched: u16, after: bool) -> io::Result<()> {
-    let day = shows::Day(matched as u64);
-    let side = if after { "after" } else { "before" };
-    print!(rt; "02-10 matched {day} {side}:")?;
+fn late_charges(matched: u16, after: bool) -> Result<Charges, Fault> {
     let cause = Cause::Late {
         intended: 40,
         matched,
@@ -128,13 +110,19 @@ fn late(rt: &HostRuntime, matched: u16, after: bool) -> io::Result<()> {
         deliverer: 200,
         receiver: 100,
     };
-    match (rising(), all_year()) {
-        (Ok(source), Ok(calendar)) => quoted(
-            rt,
-            charges(&source, &calendar, &[false; 90], reported(1, 5_000, cause)),
-        ),
-        (Err(fault), _) | (_, Err(fault)) => quoted(rt, Err(fault)),
-    }
+    charges(
+        &rising()?,
+        &all_year()?,
+        &[false; 90],
+        reported(1, 5_000, cause),
+    )
+}
+
+fn late(rt: &HostRuntime, matched: u16, after: bool) -> io::Result<()> {
+    let day = shows::Day(u64::from(matched));
+    let side = if after { "after" } else { "before" };
+    print!(rt; "02-10 matched {day} {side}:")?;
+    quoted(rt, late_charges(matched, after))
 }
 
 fn late_matches(rt: &HostRuntime) -> io::Result<()> {
@@ -153,25 +141,23 @@ fn steady() -> Result<Steps, Fault> {
     Ok(source)
 }
 
-fn pair(rt: &HostRuntime, kind: u8, deliverer: u8, receiver: u8) -> io::Result<()> {
-    print!(rt; "type {kind} reasons {deliverer} {receiver}:")?;
+fn fail_charges(kind: u8, deliverer: u8, receiver: u8) -> Result<Charges, Fault> {
     let cause = Cause::Fail {
         day: 40,
         deliverer,
         receiver,
     };
-    match (steady(), all_year()) {
-        (Ok(source), Ok(calendar)) => quoted(
-            rt,
-            charges(
-                &source,
-                &calendar,
-                &[false; 90],
-                reported(kind, 1_000, cause),
-            ),
-        ),
-        (Err(fault), _) | (_, Err(fault)) => quoted(rt, Err(fault)),
-    }
+    charges(
+        &steady()?,
+        &all_year()?,
+        &[false; 90],
+        reported(kind, 1_000, cause),
+    )
+}
+
+fn pair(rt: &HostRuntime, kind: u8, deliverer: u8, receiver: u8) -> io::Result<()> {
+    print!(rt; "type {kind} reasons {deliverer} {receiver}:")?;
+    quoted(rt, fail_charges(kind, deliverer, receiver))
 }
 
 fn pairs(rt: &HostRuntime, kind: u8) -> io::Result<()> {

@@ -326,9 +326,7 @@ mod tests {
     #[test]
     fn unreadable_lines(rt: HostRuntime) -> Result<(), Fail> {
         let heap = rt.alloc();
-        for case in UNREADABLE.iter() {
-            let line = case.line;
-            let expected = case.expected;
+        for &Unreadable { line, expected } in &UNREADABLE {
             let message = format!(in heap; "line 1: expected {expected}: {line}")?;
             refused(&rt, heap, line.as_bytes(), message.as_str())?;
         }
@@ -367,7 +365,7 @@ mod tests {
     #[test]
     fn readable_lines(rt: HostRuntime) -> Result<(), Fail> {
         let heap = rt.alloc();
-        for line in READABLE.iter() {
+        for line in READABLE {
             taken(&rt, heap, line.as_bytes())?;
         }
         Ok(())
@@ -383,41 +381,25 @@ mod tests {
             b"\n \xff\n",
             "line 2: expected business, opted, source, security, currency, sheet or quote: (no UTF-8 text)",
         )?;
-        match journal_of(heap, b"\n  # quote\n\t\r\n#") {
-            Ok(journal) => {
-                assert!(rt;
-                    journal.calls.is_empty()
-                        && journal.business.is_empty()
-                        && journal.source.is_none()
-                );
-                Ok(())
-            },
-            Err(why) => {
-                assert_eq!(rt; why.to_string(heap)?.as_str(), "");
-                Ok(())
-            },
-        }
+        let journal = journal_of(heap, b"\n  # quote\n\t\r\n#")?;
+        assert!(rt;
+            journal.calls.is_empty() && journal.business.is_empty() && journal.source.is_none()
+        );
+        Ok(())
     }
 
     // The first call of a journal.
     fn first(journal: &Journal) -> Result<Call, Fail> {
-        match journal.calls.get(0) {
-            Some(call) => Ok(call.said),
-            None => Err(Fail::new("no call")),
-        }
+        let Some(call) = journal.calls.first() else {
+            return Err(Fail::new("no call"));
+        };
+        Ok(call.said)
     }
 
     fn called(rt: &impl Abort, heap: Global, text: &[u8], call: Call) -> Result<(), Fail> {
-        match journal_of(heap, text) {
-            Ok(journal) => {
-                assert!(rt; first(&journal)? == call);
-                Ok(())
-            },
-            Err(why) => {
-                assert_eq!(rt; why.to_string(heap)?.as_str(), "");
-                Ok(())
-            },
-        }
+        let journal = journal_of(heap, text)?;
+        assert_eq!(rt; first(&journal)?, call);
+        Ok(())
     }
 
     #[test]
@@ -501,16 +483,9 @@ mod tests {
     }
 
     fn source_is(rt: &impl Abort, heap: Global, text: &[u8], source: Source) -> Result<(), Fail> {
-        match journal_of(heap, text) {
-            Ok(journal) => {
-                assert!(rt; journal.source == Some(source));
-                Ok(())
-            },
-            Err(why) => {
-                assert_eq!(rt; why.to_string(heap)?.as_str(), "");
-                Ok(())
-            },
-        }
+        let journal = journal_of(heap, text)?;
+        assert_eq!(rt; journal.source, Some(source));
+        Ok(())
     }
 
     #[test]
@@ -558,33 +533,20 @@ mod tests {
         )
     }
 
-    fn settings_of(rt: &impl Abort, journal: &Journal) -> Result<(), Fail> {
-        assert_eq!(rt; journal.business.len(), 3);
-        assert!(rt; journal.opted[0] && journal.opted[89] && !journal.opted[1]);
-        match journal.business.get(2) {
-            Some(days) => {
-                assert_eq!(rt; days.line, 3);
-                assert_eq!(rt; days.said.first, 31);
-                assert_eq!(rt; days.said.last, 371);
-                Ok(())
-            }
-            None => Err(Fail::new("no days")),
-        }
-    }
-
     #[test]
     fn settings_read(rt: HostRuntime) -> Result<(), Fail> {
         let heap = rt.alloc();
-        match journal_of(
+        let journal = journal_of(
             heap,
             b"business 01-01..01-01 99-31\nopted 10 99\nbusiness 02-01..12-31",
-        ) {
-            Ok(journal) => settings_of(&rt, &journal),
-            Err(why) => {
-                assert_eq!(rt; why.to_string(heap)?.as_str(), "");
-                Ok(())
-            },
-        }
+        )?;
+        assert_eq!(rt; journal.business.len(), 3);
+        assert!(rt; journal.opted[0] && journal.opted[89] && !journal.opted[1]);
+        let days = journal.business[2];
+        assert_eq!(rt; days.line, 3);
+        assert_eq!(rt; days.said.first, 31);
+        assert_eq!(rt; days.said.last, 371);
+        Ok(())
     }
 
     #[test]
@@ -592,10 +554,10 @@ mod tests {
         let heap = rt.alloc();
         let day = Day(40);
         let most = Day(u64::MAX);
-        let price = Price(250_001);
-        let money = Money(5);
-        let rate = Rate(6_000);
-        let value = Value(10_000_000);
+        let price = Price { units: 250_001 };
+        let money = Money { units: 5 };
+        let rate = Rate { units: 6_000 };
+        let value = Value { units: 10_000_000 };
         assert_eq!(rt;
             format!(in heap; "{day} {most} {price} {money:>6}|")?.as_str(),
             "02-10 595056260442243601-16 25.0001   0.05|"
@@ -698,12 +660,10 @@ mod tests {
     #[test]
     fn refusals(rt: HostRuntime) -> Result<(), Fail> {
         let heap = rt.alloc();
-        for case in BROKEN.iter() {
-            let rule = case.rule;
-            let place = case.place;
+        for &Broken { rule, place, text } in &BROKEN {
             let layer = Layer::Calculation;
             let refusal = Refusal(Fault { rule, layer, place });
-            assert_eq!(rt; refusal.to_string(heap)?.as_str(), case.text);
+            assert_eq!(rt; refusal.to_string(heap)?.as_str(), text);
         }
         Ok(())
     }

@@ -1,5 +1,7 @@
 -- What rows mean: the sheet in the first row of a number and day, and the rows after an entry. Assumes nothing.
-use Rattle.std.specs.Prelude.{◌≡◌, ℕ, suc, Bool, true, false, cond, not, ◌&&◌, ◌||◌, List, [], ◌∷◌, is_some, Some, None, Option, Result, MatchResult, ◌==◌, slice_set}
+use Rattle.std.specs.Prelude.{◌≡◌, ℕ, Bool, true, false, ◌&&◌, ◌||◌, List, is_none, Some, None, Option, Result, MatchResult, ◌==◌, slice_set, option_and_then, find, position}
+use Rattle.std.specs.List.{list_any}
+use Rattle.std.specs.Option.{option_or, option_map_or}
 use Rattle.sheets.specs.declared.fault.Fault.{Fault}
 use Rattle.sheets.specs.declared.fault.Rule.TheVariants.{NotTaken}
 use Rattle.sheets.specs.declared.fault.Layer.TheVariants.{Source}
@@ -16,7 +18,7 @@ any_number k s = true
 
 -- a currency sheet stands under its own currency only
 abbrev pub own_number : ℕ → CurrencySheet → Bool
-own_number k s = s.currency == k
+own_number k s = s.currency.number == k
 
 -- a row without a sheet
 abbrev pub unused_row : {T : Type 0} → Row T
@@ -41,26 +43,15 @@ sits stands k d r = r.day == d && filed stands k r
 
 -- the row is unused
 abbrev pub free : {T : Type 0} → Row T → Bool
-free r = not (is_some r.sheet)
-
--- the place of the first element that passes, or the length if none does
-abbrev pub first_place : {X : Type 0} → (X → Bool) → List X → ℕ
-first_place p [] = 0
-first_place p (x ∷ xs) = cond (p x) 0 (suc (first_place p xs))
-
--- some element passes
-abbrev pub any : {X : Type 0} → (X → Bool) → List X → Bool
-any p [] = false
-any p (x ∷ xs) = p x || any p xs
+free r = is_none r.sheet
 
 -- the sheet of the first row that passes
 abbrev pub found : {T : Type 0} → (Row T → Bool) → List (Row T) → Option T
-found p [] = None
-found p (r ∷ rs) = cond (p r) r.sheet (found p rs)
+found p rows = option_and_then (λ r. r.sheet) (find p rows)
 
 -- an entry is taken if its number and day have a row, or a row is unused
 abbrev pub takes_row : {T : Type 0} → (ℕ → T → Bool) → ℕ → ℕ → List (Row T) → Bool
-takes_row stands k d rows = any (sits stands k d) rows || any free rows
+takes_row stands k d rows = list_any (sits stands k d) rows || list_any free rows
 
 -- an entry reaches its own day only
 abbrev pub rows_table : {T : Type 0} → (ℕ → T → Bool) → List (Row T) → Table T
@@ -71,12 +62,12 @@ rows_table stands rows = record {
 }
 
 -- an entry goes to the row of its number and day, or else to the first unused row
-abbrev pub entry_place : {T : Type 0} → (ℕ → T → Bool) → ℕ → ℕ → List (Row T) → ℕ
-entry_place stands k d rows = cond (any (sits stands k d) rows) (first_place (sits stands k d) rows) (first_place free rows)
+abbrev pub entry_place : {T : Type 0} → (ℕ → T → Bool) → ℕ → ℕ → List (Row T) → Option ℕ
+entry_place stands k d rows = option_or (position (sits stands k d) rows) (position free rows)
 
--- the rows after a taken entry
+-- the rows after an entry
 abbrev pub entered_rows : {T : Type 0} → (ℕ → T → Bool) → ℕ → ℕ → T → List (Row T) → List (Row T)
-entered_rows stands k d s rows = slice_set rows (entry_place stands k d rows) (entry_row k d s)
+entered_rows stands k d s rows = option_map_or (λ i. slice_set rows i (entry_row k d s)) (entry_place stands k d rows) rows
 
 -- the entry was taken, and reaches to the day e
 pub record RowTaken {T : Type 0} (stands : ℕ → T → Bool) (before after : List (Row T)) (k d : ℕ) (s : T) (last e : ℕ) : Type 0 where

@@ -5,7 +5,7 @@ ghost use Rattle.plain_rows.specs.Rows.{any_number, own_number, unused_row, Rows
 ghost use Rattle.plain_rows.specs.Plain.{plain_meaning};
 ghost use Rattle.plain_rows.specs.Own.{rows_own};
 
-use crate::rows::{Row, clear, enter_row, row_sheet};
+use crate::rows::{Row, enter_row, row_sheet};
 use reference::source::Source;
 use sheets::fault::Fault;
 use sheets::sheet::{CurrencySheet, SecuritySheet};
@@ -25,8 +25,8 @@ impl<'a> PlainRows<'a> {
     ) -> PlainRows<'a>
         ensures made { (result.securities.now ≡ replicate (length securities.old) unused_row) × (result.currencies.now ≡ replicate (length currencies.old) unused_row) }
     {
-        clear(securities);
-        clear(currencies);
+        securities.fill(Row::unused());
+        currencies.fill(Row::unused());
         PlainRows {
             securities,
             currencies,
@@ -35,7 +35,7 @@ impl<'a> PlainRows<'a> {
 }
 
 impl<'a> Source for PlainRows<'a> {
-    ghost meaning = { λ s. plain_meaning s.securities.now s.currencies.now };
+    ghost meaning = { plain_meaning };
 
     ghost own = { λ s. rows_own s.currencies.now };
 
@@ -44,7 +44,7 @@ impl<'a> Source for PlainRows<'a> {
     }
 
     fn currency(&self, currency: Currency, day: Day) -> Option<CurrencySheet> {
-        row_sheet(self.currencies, currency.number as u16, day.number)
+        row_sheet(self.currencies, u16::from(currency.number), day.number)
     }
 
     fn enter_security(
@@ -53,7 +53,7 @@ impl<'a> Source for PlainRows<'a> {
         day: Day,
         sheet: SecuritySheet,
     ) -> Result<Day, Fault>
-        ensures entered { SecurityEntered (plain_meaning self.old.securities.now self.old.currencies.now) (plain_meaning self.new.securities.now self.new.currencies.now) security.number day.number sheet result }
+        ensures entered { SecurityEntered (plain_meaning self.old) (plain_meaning self.new) security.number day.number sheet result }
         ensures after { RowsAfter any_number self.old.securities.now self.new.securities.now security.number day.number sheet result }
         ensures same { self.new.currencies.now ≡ self.old.currencies.now }
     {
@@ -61,10 +61,15 @@ impl<'a> Source for PlainRows<'a> {
     }
 
     fn enter_currency(&mut self, day: Day, sheet: CurrencySheet) -> Result<Day, Fault>
-        ensures entered { CurrencyEntered (plain_meaning self.old.securities.now self.old.currencies.now) (plain_meaning self.new.securities.now self.new.currencies.now) day.number sheet result }
-        ensures after { RowsAfter own_number self.old.currencies.now self.new.currencies.now sheet.currency day.number sheet result }
+        ensures entered { CurrencyEntered (plain_meaning self.old) (plain_meaning self.new) day.number sheet result }
+        ensures after { RowsAfter own_number self.old.currencies.now self.new.currencies.now sheet.currency.number day.number sheet result }
         ensures same { self.new.securities.now ≡ self.old.securities.now }
     {
-        enter_row(self.currencies, sheet.currency as u16, day, sheet)
+        enter_row(
+            self.currencies,
+            u16::from(sheet.currency.number),
+            day,
+            sheet,
+        )
     }
 }

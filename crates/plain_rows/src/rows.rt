@@ -1,13 +1,13 @@
 // Rows of one kind of sheet, written once for both kinds.
-ghost use Rattle.std.specs.Prelude.{◌≡◌, ℕ, Bool, length, replicate};
-ghost use Rattle.plain_rows.specs.Rows.{any_number, own_number, unused_row, filed, sits, free, entry_row, first_place, entry_place, rows_table, RowEntered};
+ghost use Rattle.std.specs.Prelude.{◌≡◌, ℕ, Bool, position};
+ghost use Rattle.plain_rows.specs.Rows.{any_number, own_number, unused_row, filed, sits, free, entry_row, entry_place, rows_table, RowEntered};
 
 use sheets::fault::{Fault, Layer, Rule};
 use sheets::sheet::{CurrencySheet, SecuritySheet};
 use sheets::units::Day;
 
-// A row is unused if it has no sheet.
-#[derive(Clone, Copy)]
+// A row is unused if it has no sheet; its number and day are then never read.
+#[derive(Clone, Copy, Debug, PartialEq, Eq)]
 pub struct Row<T> {
     pub number: u16,
     pub day: u16,
@@ -23,6 +23,12 @@ impl<T> Row<T> {
             day: 0,
             sheet: None,
         }
+    }
+
+    fn is_unused(&self) -> bool
+        ensures value { result ≡ free self.now }
+    {
+        self.sheet.is_none()
     }
 }
 
@@ -46,90 +52,59 @@ impl Filed for CurrencySheet {
     ghost stands = { own_number };
 
     fn stands_under(self, number: u16) -> bool {
-        self.currency as u16 == number
+        u16::from(self.currency.number) == number
     }
 }
 
-// The row is an entry of the number.
-pub fn is_filed<T: Filed>(row: Row<T>, number: u16) -> bool
-    ensures value { result ≡ filed T.stands number row }
-{
-    if row.number != number {
-        return false;
-    }
-    match row.sheet {
-        Some(sheet) => sheet.stands_under(number),
-        None => false,
-    }
-}
-
-fn is_at<T: Filed>(row: Row<T>, number: u16, day: u16) -> bool
-    ensures value { result ≡ sits T.stands number day row }
-{
-    row.day == day && is_filed(row, number)
-}
-
-fn is_unused<T: Filed>(row: Row<T>) -> bool
-    ensures value { result ≡ free row }
-{
-    row.sheet.is_none()
-}
-
-// The place of the first row of that number and day, or the number of rows.
-fn place_of<T: Filed>(rows: &[Row<T>], number: u16, day: u16) -> usize
-    ensures value { result ≡ first_place (sits T.stands number day) rows.now }
-{
-    for i in 0..rows.len() {
-        if is_at(rows[i], number, day) {
-            return i;
+impl<T: Filed> Row<T> {
+    // An entry reaches its own day only.
+    fn entry(number: u16, day: u16, sheet: T) -> Row<T>
+        ensures value { result ≡ entry_row number day sheet }
+    {
+        Row {
+            number,
+            day,
+            sheet: Some(sheet),
         }
     }
-    rows.len()
-}
 
-// The place of the first unused row, or the number of rows.
-fn free_place<T: Filed>(rows: &[Row<T>]) -> usize
-    ensures value { result ≡ first_place free rows.now }
-{
-    for i in 0..rows.len() {
-        if is_unused(rows[i]) {
-            return i;
-        }
+    // The row is an entry of the number.
+    pub fn is_filed(&self, number: u16) -> bool
+        ensures value { result ≡ filed T.stands number self.now }
+    {
+        self.number == number && self.sheet.is_some_and(|sheet| sheet.stands_under(number))
     }
-    rows.len()
+
+    fn is_at(&self, number: u16, day: u16) -> bool
+        ensures value { result ≡ sits T.stands number day self.now }
+    {
+        self.day == day && self.is_filed(number)
+    }
 }
 
-// Where an entry of that number and day goes.
-fn entry_place<T: Filed>(rows: &[Row<T>], number: u16, day: u16) -> usize
+// The first unused row.
+fn free_place<T: Filed>(rows: &[Row<T>]) -> Option<usize>
+    ensures value { result ≡ position free rows.now }
+{
+    rows.iter().position(|row| row.is_unused())
+}
+
+// Where an entry of that number and day goes: its row, or the first unused one.
+fn entry_place<T: Filed>(rows: &[Row<T>], number: u16, day: u16) -> Option<usize>
     ensures value { result ≡ entry_place T.stands number day rows.now }
 {
-    let i = place_of(rows, number, day);
-    if i < rows.len() {
-        return i;
-    }
-    free_place(rows)
+    rows.iter()
+        .position(|row| row.is_at(number, day))
+        .or_else(|| free_place(rows))
 }
 
 // The sheet of that number and day.
 pub fn row_sheet<T: Filed>(rows: &[Row<T>], number: u16, day: u16) -> Option<T>
     ensures value { result ≡ (rows_table T.stands rows.now).sheet number day }
 {
-    let i = place_of(rows, number, day);
-    if i < rows.len() {
-        return rows[i].sheet;
-    }
-    None
-}
-
-// The entry reaches its own day only.
-fn entry_row<T: Filed>(number: u16, day: u16, sheet: T) -> Row<T>
-    ensures value { result ≡ entry_row number day sheet }
-{
-    Row {
-        number,
-        day,
-        sheet: Some(sheet),
-    }
+    rows.iter()
+        .find(|row| row.is_at(number, day))
+        .and_then(|row| row.sheet)
 }
 
 // Overwrites the row of its number and day, or takes the first unused row; an entry in rows reaches its own day only.
@@ -141,23 +116,9 @@ pub fn enter_row<T: Filed>(
 ) -> Result<Day, Fault>
     ensures entered { RowEntered T.stands rows.old rows.new number day.number sheet day.number result }
 {
-    let i = entry_place(rows, number, day.number);
-    if i < rows.len() {
-        rows[i] = entry_row(number, day.number, sheet);
-        return Ok(day);
-    }
-    Err(Fault {
-        rule: Rule::NotTaken,
-        layer: Layer::Source,
-        place: (number as u64, day.number as u64),
-    })
-}
-
-// Marks every row unused.
-pub(crate) fn clear<T: Filed>(rows: &mut [Row<T>])
-    ensures after { rows.new ≡ replicate (length rows.old) unused_row }
-{
-    for i in 0..rows.len() {
-        rows[i] = Row::unused();
-    }
+    let Some(place) = entry_place(rows, number, day.number) else {
+        return Err(Layer::Source.refuses(Rule::NotTaken, u64::from(number), u64::from(day.number)));
+    };
+    rows[place] = Row::entry(number, day.number, sheet);
+    Ok(day)
 }

@@ -4,7 +4,7 @@
 mod help;
 
 use crate::help::HELP;
-use calculation::charge::{Charge, Charges};
+use calculation::charge::Charges;
 use calculation::charges::charges;
 use carry::layer::Carry;
 use journal::read::journal_of;
@@ -21,10 +21,10 @@ use reports::report::{Cause, Report};
 use sheets::fault::Fault;
 use sheets::sheet::{CurrencySheet, SecuritySheet};
 use sheets::units::Day;
-use shows::Refusal;
+use shows::{Payment, Refusal};
 use std::io::{BufWriter, Read, Write};
 use std::process::ExitCode;
-use std::{env, fs, io};
+use std::{env, fmt, fs, io};
 use steps::entries::Steps;
 
 // The program ends with status 1; what is wrong is on the standard error.
@@ -38,59 +38,74 @@ struct Marks {
     opted: [bool; 90],
 }
 
-fn reaches<W: Write>(out: &mut W, line: usize, answer: Result<Day, Fault>) -> io::Result<()> {
-    match answer {
-        Ok(day) => {
-            let day = shows::Day(day.number as u64);
-            writeln!(out, "{line} reaches {day}")
-        }
-        Err(fault) => refused(out, line, fault),
+// Where the reply to the call on a line is written; each kind of sheet has a reply of its own.
+#[derive(Drop)]
+struct Reply<'a, W> {
+    out: &'a mut W,
+    line: usize,
+}
+
+impl<W: Write> Reply<'_, W> {
+    fn none(self) -> io::Result<()> {
+        let Reply { out, line } = self;
+        writeln!(out, "{line} none")
     }
-}
 
-fn refused<W: Write>(out: &mut W, line: usize, fault: Fault) -> io::Result<()> {
-    let refusal = Refusal(fault);
-    writeln!(out, "{line} {refusal}")
-}
+    fn refused(self, fault: Fault) -> io::Result<()> {
+        let Reply { out, line } = self;
+        let refusal = Refusal(fault);
+        writeln!(out, "{line} {refusal}")
+    }
 
-fn security<W: Write>(out: &mut W, line: usize, answer: Option<SecuritySheet>) -> io::Result<()> {
-    let Some(sheet) = answer else {
-        return writeln!(out, "{line} none");
-    };
-    let price = shows::Price(sheet.price as u64);
-    let currency = shows::Currency(sheet.currency as u64);
-    let class = sheet.class.number();
-    writeln!(out, "{line} sheet {price} {currency} {class}")
-}
+    fn reaches(self, answer: Result<Day, Fault>) -> io::Result<()> {
+        let day = match answer {
+            Ok(day) => shows::Day(u64::from(day.number)),
+            Err(fault) => return self.refused(fault),
+        };
+        let Reply { out, line } = self;
+        writeln!(out, "{line} reaches {day}")
+    }
 
-fn currency<W: Write>(out: &mut W, line: usize, answer: Option<CurrencySheet>) -> io::Result<()> {
-    let Some(sheet) = answer else {
-        return writeln!(out, "{line} none");
-    };
-    let rate = shows::Rate(sheet.rate as u64);
-    let value = shows::Value(sheet.value as u64);
-    writeln!(out, "{line} sheet {rate} {value}")
-}
+    fn security(self, answer: Option<SecuritySheet>) -> io::Result<()> {
+        let Some(sheet) = answer else {
+            return self.none();
+        };
+        let Reply { out, line } = self;
+        let price = shows::Price {
+            units: u64::from(sheet.price),
+        };
+        let currency = shows::Currency(u64::from(sheet.currency.number));
+        let class = sheet.class.number();
+        writeln!(out, "{line} sheet {price} {currency} {class}")
+    }
 
-fn charged<W: Write>(out: &mut W, line: usize, charge: Charge) -> io::Result<()> {
-    let failing = charge.failing;
-    let other = charge.other;
-    let currency = shows::Currency(charge.currency as u64);
-    let amount = shows::Money(charge.amount);
-    writeln!(
-        out,
-        "{line} charge {failing} to {other} {currency} {amount}"
-    )
-}
+    fn currency(self, answer: Option<CurrencySheet>) -> io::Result<()> {
+        let Some(sheet) = answer else {
+            return self.none();
+        };
+        let Reply { out, line } = self;
+        let rate = shows::Rate {
+            units: u64::from(sheet.rate.number),
+        };
+        let value = shows::Value {
+            units: u64::from(sheet.value),
+        };
+        writeln!(out, "{line} sheet {rate} {value}")
+    }
 
-fn quoted<W: Write>(out: &mut W, line: usize, answer: Result<Charges, Fault>) -> io::Result<()> {
-    match answer {
-        Ok(Charges::One(charge)) => charged(out, line, charge),
-        Ok(Charges::Two(first, second)) => {
-            charged(out, line, first)?;
-            charged(out, line, second)
+    fn quoted(self, answer: Result<Charges, Fault>) -> io::Result<()> {
+        let charges = match answer {
+            Ok(charges) => charges,
+            Err(fault) => return self.refused(fault),
+        };
+        let Reply { out, line } = self;
+        match charges {
+            Charges::One(charge) => writeln!(out, "{line} {}", Payment(charge)),
+            Charges::Two(first, second) => {
+                writeln!(out, "{line} {}", Payment(first))?;
+                writeln!(out, "{line} {}", Payment(second))
+            }
         }
-        Err(fault) => refused(out, line, fault),
     }
 }
 
@@ -133,144 +148,118 @@ fn report_of(quote: Quote) -> Report {
 
 // Carries out one call, and writes its answer.
 fn answer<S: Source, W: Write>(
-    out: &mut W,
+    reply: Reply<'_, W>,
     source: &mut S,
     marks: &Marks,
-    call: Numbered<Call>,
+    call: Call,
 ) -> io::Result<()> {
-    let line = call.line;
-    match call.said {
+    match call {
         Call::EnterSecurity {
             security,
             day,
             price,
             currency,
             class,
-        } => {
-            let entered = file_security(source, security, day, price, currency, class);
-            reaches(out, line, entered)
-        }
+        } => { reply.reaches(file_security(source, security, day, price, currency, class)) }
         Call::EnterCurrency {
             currency,
             day,
             rate,
             value,
-        } => {
-            let entered = file_currency(source, currency, day, rate, value);
-            reaches(out, line, entered)
-        }
-        Call::AskSecurity {
-            security: number,
-            day,
-        } => { security(out, line, raw::security(source, number, day)) }
-        Call::AskCurrency {
-            currency: number,
-            day,
-        } => { currency(out, line, raw::currency(source, number, day)) }
-        Call::Quote(quote) => {
-            let answer = charges(source, &marks.calendar, &marks.opted, report_of(quote));
-            quoted(out, line, answer)
-        }
+        } => reply.reaches(file_currency(source, currency, day, rate, value)),
+        Call::AskSecurity { security, day } => reply.security(raw::security(source, security, day)),
+        Call::AskCurrency { currency, day } => reply.currency(raw::currency(source, currency, day)),
+        Call::Quote(quote) => reply.quoted(charges(
+            source,
+            &marks.calendar,
+            &marks.opted,
+            report_of(quote),
+        )),
     }
 }
 
 // Opens the business days; a span past the year is refused, and the others are opened.
 fn open_year<W: Write>(out: &mut W, spans: &[Numbered<Span>]) -> io::Result<Calendar> {
     let mut calendar = closed_year();
-    for span in spans {
-        let span = *span;
-        if let Err(fault) = open_days(&mut calendar, span.said.first, span.said.last) {
-            refused(out, span.line, fault)?;
+    for &Numbered { line, said } in spans {
+        if let Err(fault) = open_days(&mut calendar, said.first, said.last) {
+            Reply { out, line }.refused(fault)?;
         }
     }
     Ok(calendar)
 }
 
-fn carry_out<S: Source + Drop>(rt: &HostRuntime, source: S, journal: &Journal) -> io::Result<()> {
-    let mut source = source;
-    let mut out = BufWriter::new(rt.alloc(), rt.stdout())?;
-    let calendar = open_year(&mut out, journal.business.as_slice())?;
-    let opted = journal.opted;
-    let marks = Marks { calendar, opted };
-    for call in journal.calls.as_slice() {
-        answer(&mut out, &mut source, &marks, *call)?;
+// A journal, and the runtime that it is carried out by.
+#[derive(Clone, Copy)]
+struct Session<'a> {
+    rt: &'a HostRuntime,
+    journal: &'a Journal,
+}
+
+impl Session<'_> {
+    fn carry_out<S: Source + Drop>(self, mut source: S) -> io::Result<()> {
+        let Session { rt, journal } = self;
+        let mut out = BufWriter::new(rt.alloc(), rt.stdout())?;
+        let calendar = open_year(&mut out, journal.business.as_slice())?;
+        let opted = journal.opted;
+        let marks = Marks { calendar, opted };
+        for &Numbered { line, said } in journal.calls.as_slice() {
+            let out = &mut out;
+            answer(Reply { out, line }, &mut source, &marks, said)?;
+        }
+        out.flush()
     }
-    out.flush()
-}
 
-// The layer over the source, if the journal sets one.
-fn layered<S: Source + Drop>(
-    rt: &HostRuntime,
-    below: S,
-    reach: Option<u8>,
-    journal: &Journal,
-) -> io::Result<()> {
-    match reach {
-        Some(reach) => carry_out(rt, Carry::over(below, reach), journal),
-        None => carry_out(rt, below, journal),
+    // Over the layer, if the journal sets one.
+    fn layered<S: Source + Drop>(self, below: S, reach: Option<u8>) -> io::Result<()> {
+        match reach {
+            Some(reach) => self.carry_out(Carry::over(below, reach)),
+            None => self.carry_out(below),
+        }
     }
-}
 
-fn over_rows(
-    rt: &HostRuntime,
-    securities: usize,
-    currencies: usize,
-    reach: Option<u8>,
-    journal: &Journal,
-) -> io::Result<()> {
-    let mut securities = vec![in rt.alloc(); Row::unused(); securities]?;
-    let mut currencies = vec![in rt.alloc(); Row::unused(); currencies]?;
-    let below = PlainRows::new(securities.as_mut_slice(), currencies.as_mut_slice());
-    layered(rt, below, reach, journal)
-}
-
-// A journal without a call needs no source; steps then stand for it.
-fn with_source(rt: &HostRuntime, journal: &Journal) -> io::Result<()> {
-    let Some(source) = journal.source else {
-        return carry_out(rt, Steps::new(), journal);
-    };
-    match source.base {
-        Base::Steps => layered(rt, Steps::new(), source.reach, journal),
-        Base::Plain {
-            securities,
-            currencies,
-        } => over_rows(rt, securities, currencies, source.reach, journal),
+    fn over_rows(self, securities: usize, currencies: usize, reach: Option<u8>) -> io::Result<()> {
+        let heap = self.rt.alloc();
+        let mut securities = vec![in heap; Row::unused(); securities]?;
+        let mut currencies = vec![in heap; Row::unused(); currencies]?;
+        let below = PlainRows::new(securities.as_mut_slice(), currencies.as_mut_slice());
+        self.layered(below, reach)
     }
-}
 
-// Says why the program stops.
-fn told(rt: &HostRuntime, why: io::Error) -> Stop {
-    let _ = eprintln!(rt; "pugraide: {why}");
-    Stop
-}
-
-// Says which file could not be read, and why.
-fn unread(rt: &HostRuntime, path: &Option<String>, why: io::Error) -> Stop {
-    let name = match path {
-        Some(path) => path.as_str(),
-        None => "standard input",
-    };
-    let _ = eprintln!(rt; "pugraide: {name}: {why}");
-    Stop
-}
-
-fn run(rt: &HostRuntime, text: &[u8]) -> Result<(), Stop> {
-    match journal_of(rt.alloc(), text) {
-        Ok(journal) => match with_source(rt, &journal) {
-            Ok(()) => Ok(()),
-            Err(e) => Err(told(rt, e)),
-        },
-        Err(why) => {
-            let _ = eprintln!(rt; "pugraide: {why}");
-            Err(Stop)
+    // A journal without a call needs no source; steps then stand for it.
+    fn with_source(self) -> io::Result<()> {
+        let Some(source) = self.journal.source else {
+            return self.carry_out(Steps::new());
+        };
+        match source.base {
+            Base::Steps => self.layered(Steps::new(), source.reach),
+            Base::Plain {
+                securities,
+                currencies,
+            } => self.over_rows(securities, currencies, source.reach),
         }
     }
 }
 
+// Says why the program stops.
+fn told<E: fmt::Display + Drop>(rt: &HostRuntime, why: E) -> Stop {
+    let _ = eprintln!(rt; "pugraide: {why}");
+    Stop
+}
+
+fn run(rt: &HostRuntime, text: &[u8]) -> Result<(), Stop> {
+    let journal = journal_of(rt.alloc(), text).map_err(|why| told(rt, why))?;
+    let session = Session {
+        rt,
+        journal: &journal,
+    };
+    session.with_source().map_err(|why| told(rt, why))
+}
+
 // The journal's text: of the file that is named, or of the standard input.
-fn text_of(rt: &HostRuntime, path: &Option<String>) -> io::Result<Vec<u8>> {
+fn text_of(rt: &HostRuntime, path: Option<&str>) -> io::Result<Vec<u8>> {
     match path {
-        Some(path) => fs::read(rt, path.as_str()),
+        Some(path) => fs::read(rt, path),
         None => {
             let mut text = Vec::new(rt.alloc());
             rt.stdin().read_to_end(&mut text)?;
@@ -285,26 +274,16 @@ fn first_word(rt: &HostRuntime) -> io::Result<Option<String>> {
     Ok(args.next())
 }
 
-fn asks_help(word: &Option<String>) -> bool {
-    match word {
-        Some(word) => word.as_str() == "--help",
-        None => false,
-    }
-}
-
 fn start(rt: &HostRuntime) -> Result<(), Stop> {
-    let word = match first_word(rt) {
-        Ok(word) => word,
-        Err(e) => return Err(told(rt, e)),
-    };
-    if asks_help(&word) {
+    let word = first_word(rt).map_err(|why| told(rt, why))?;
+    let path = word.as_deref();
+    if path == Some("--help") {
         let _ = print!(rt; "{HELP}");
         return Ok(());
     }
-    match text_of(rt, &word) {
-        Ok(text) => run(rt, text.as_slice()),
-        Err(e) => Err(unread(rt, &word, e)),
-    }
+    let name = path.unwrap_or("standard input");
+    let text = text_of(rt, path).map_err(|why| told(rt, format_args!("{name}: {why}")))?;
+    run(rt, text.as_slice())
 }
 
 // A returned error would be printed once more, so the status alone is returned.

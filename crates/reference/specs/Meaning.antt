@@ -27,7 +27,7 @@ Each P (Some s) = P s
 
 -- A currency sheet stands under its own currency.
 abbrev pub Own : Table CurrencySheet → Type 0
-Own t = (k d : ℕ) → Each (λ s. s.currency ≡ k) (t.sheet k d)
+Own t = (k d : ℕ) → Each (λ s. s.currency.number ≡ k) (t.sheet k d)
 
 -- An entry that is taken: the table has the new sheet, and changes only under the entry's number and from its day to the day e.
 pub record Taken {T : Type 0} (before after : Table T) (number day : ℕ) (s : T) (e : ℕ) : Type 0 where
@@ -55,8 +55,8 @@ SecurityEntered before after number day s r =
 abbrev pub CurrencyEntered : Meaning → Meaning → ℕ → CurrencySheet → Result Day Fault → Type 0
 CurrencyEntered before after day s r =
     MatchResult r
-    (λ e. Taken before.currencies after.currencies s.currency day s e.number × (after.securities ≡ before.securities))
-    (Refused before after (before.currencies.takes s.currency day s) s.currency day)
+    (λ e. Taken before.currencies after.currencies s.currency.number day s e.number × (after.securities ≡ before.securities))
+    (Refused before after (before.currencies.takes s.currency.number day s) s.currency.number day)
 
 -- What is answered to any numbers: outside the units, none.
 pub record Sheets : Type 0 where

@@ -1,4 +1,4 @@
-// Entries of sheets from raw numbers: the sheet is made first, then it is entered.
+// Entries of sheets from raw numbers: the sheet is made first, then it is entered. The two differ in what a sheet holds.
 ghost use Rattle.reference.specs.Meaning.{SecurityFiled, CurrencyFiled};
 
 use crate::raw;

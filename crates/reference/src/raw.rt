@@ -4,27 +4,25 @@ ghost use Rattle.reference.specs.Meaning.{answers, SecurityEntered, CurrencyEnte
 
 use crate::source::Source;
 use sheets::fault::{Fault, Layer};
-use sheets::limits::LAST_CURRENCY;
 use sheets::make;
 use sheets::sheet::{CurrencySheet, SecuritySheet};
-use sheets::units::{Currency, Day};
+use sheets::units::{Currency, Day, Security};
 
+// Two functions for each call, as the interface has: a generic one would only pick between its methods.
 pub fn security<S: Source>(source: &S, security: u16, day: u16) -> Option<SecuritySheet>
     ensures value { result ≡ (answers (S.meaning source.now)).securities security day }
 {
-    let security = make::security(Layer::Source, security).ok()?;
-    let day = make::day(Layer::Source, day).ok()?;
+    let security = Security::try_from(security).ok()?;
+    let day = Day::try_from(day).ok()?;
     source.security(security, day)
 }
 
 pub fn currency<S: Source>(source: &S, currency: u8, day: u16) -> Option<CurrencySheet>
     ensures value { result ≡ (answers (S.meaning source.now)).currencies currency day }
 {
-    if currency > LAST_CURRENCY {
-        return None;
-    }
-    let day = make::day(Layer::Source, day).ok()?;
-    source.currency(Currency { number: currency }, day)
+    let currency = Currency::try_from(currency).ok()?;
+    let day = Day::try_from(day).ok()?;
+    source.currency(currency, day)
 }
 
 pub fn enter_security<S: Source>(

@@ -6,10 +6,10 @@ use sheets::fault::Fault;
 use sheets::sheet::{CurrencySheet, SecuritySheet};
 use sheets::units::{Currency, Day, Security};
 
+// One method for each kind of sheet: a generic one would need a table of each kind from one source, an associated type with a
+// parameter, which Rattle lacks.
 pub trait Source {
     ghost meaning: { Self → Meaning };
-
-    ghost own: { (s : Self) → Own (meaning s).currencies };
 
     fn security(&self, security: Security, day: Day) -> Option<SecuritySheet>
         ensures value { result ≡ (meaning self.now).securities.sheet security.number day.number };
@@ -29,4 +29,7 @@ pub trait Source {
     // The same under the sheet's own currency.
     fn enter_currency(&mut self, day: Day, sheet: CurrencySheet) -> Result<Day, Fault>
         ensures entered { CurrencyEntered (meaning self.old) (meaning self.new) day.number sheet result };
+
+    // A currency sheet stands under its own currency.
+    ghost own: { (s : Self) → Own (meaning s).currencies };
 }

@@ -8,7 +8,6 @@ mod tests {
     use plain_rows::rows::Row;
     use reference::entry::{file_currency, file_security};
     use reference::raw;
-    use reference::source::Source;
     use reports::calendar::Calendar;
     use reports::open::{closed_year, open_days};
     use reports::report::{Cause, Report};
@@ -17,44 +16,33 @@ mod tests {
     use std::process::Abort;
     use steps::entries::Steps;
 
-    // What a call is to answer: nothing but a result, or a refusal with number, layer and place.
-    #[derive(Clone, Copy)]
-    struct Answer {
+    // A refusal's number, layer and place.
+    #[derive(Clone, Copy, Debug, PartialEq, Eq)]
+    struct Refusal {
         number: u8,
         layer: u8,
         place: (u64, u64),
     }
 
-    const TAKEN: Answer = Answer {
-        number: 0,
-        layer: 0,
-        place: (0, 0),
-    };
+    // What a call is to answer: a result, whatever it is, or a refusal.
+    type Answer = Result<(), Refusal>;
+
+    const TAKEN: Answer = Ok(());
 
     const fn refused(number: u8, layer: u8, first: u64, second: u64) -> Answer {
-        Answer {
+        Err(Refusal {
             number,
             layer,
             place: (first, second),
-        }
+        })
     }
 
-    fn answered<T: Drop>(r: Result<T, Fault>) -> Answer {
-        match r {
-            Ok(_) => TAKEN,
-            Err(fault) => Answer {
-                number: fault.number(),
-                layer: fault.layer_number(),
-                place: fault.place,
-            },
-        }
-    }
-
-    fn same(rt: &impl Abort, got: Answer, wanted: Answer) {
-        assert_eq!(rt; got.number, wanted.number);
-        assert_eq!(rt; got.layer, wanted.layer);
-        assert_eq!(rt; got.place.0, wanted.place.0);
-        assert_eq!(rt; got.place.1, wanted.place.1);
+    fn answered<T: Drop>(answer: Result<T, Fault>) -> Answer {
+        answer.map(|_| ()).map_err(|fault| Refusal {
+            number: fault.number(),
+            layer: fault.layer_number(),
+            place: fault.place,
+        })
     }
 
     // Price, currency and class.
@@ -74,8 +62,7 @@ mod tests {
             (1, 16, 7, refused(2, 1, 7, 0)),
         ];
         for (price, currency, class, wanted) in cases {
-            same(
-                &rt,
+            assert_eq!(rt;
                 answered(make::security_sheet(price, currency, class)),
                 wanted,
             );
@@ -102,8 +89,7 @@ mod tests {
             (16, 100_001, 1, refused(3, 1, 16, 0)),
         ];
         for (currency, rate, value, wanted) in cases {
-            same(
-                &rt,
+            assert_eq!(rt;
                 answered(make::currency_sheet(currency, rate, value)),
                 wanted,
             );
@@ -123,19 +109,16 @@ mod tests {
         ];
         let mut steps = Steps::new();
         for (security, day, price, wanted) in cases {
-            same(
-                &rt,
+            assert_eq!(rt;
                 answered(file_security(&mut steps, security, day, price, 0, 1)),
                 wanted,
             );
         }
-        same(
-            &rt,
+        assert_eq!(rt;
             answered(file_currency(&mut steps, 0, 371, 0, 1_000_000)),
             TAKEN,
         );
-        same(
-            &rt,
+        assert_eq!(rt;
             answered(file_currency(&mut steps, 0, 372, 0, 1_000_000)),
             refused(6, 2, 372, 0),
         );
@@ -144,13 +127,11 @@ mod tests {
     #[test]
     fn questions(rt: HostRuntime) {
         let mut steps = Steps::new();
-        same(
-            &rt,
+        assert_eq!(rt;
             answered(file_security(&mut steps, 9_999, 0, 1, 0, 1)),
             TAKEN,
         );
-        same(
-            &rt,
+        assert_eq!(rt;
             answered(file_currency(&mut steps, 0, 0, 0, 1_000_000)),
             TAKEN,
         );
@@ -180,19 +161,16 @@ mod tests {
             (18, 40, refused(7, 2, 18, 40)),
         ];
         for (security, day, wanted) in cases {
-            same(
-                &rt,
+            assert_eq!(rt;
                 answered(file_security(&mut plain, security, day, 1, 0, 1)),
                 wanted,
             );
         }
-        same(
-            &rt,
+        assert_eq!(rt;
             answered(file_currency(&mut plain, 0, 40, 0, 1_000_000)),
             TAKEN,
         );
-        same(
-            &rt,
+        assert_eq!(rt;
             answered(file_currency(&mut plain, 1, 40, 0, 134_000)),
             refused(7, 2, 1, 40),
         );
@@ -202,8 +180,7 @@ mod tests {
     fn room_in_steps(rt: HostRuntime) {
         let mut steps = Steps::new();
         for security in 1..65 {
-            same(
-                &rt,
+            assert_eq!(rt;
                 answered(file_security(&mut steps, security, 40, 1, 0, 1)),
                 TAKEN,
             );
@@ -213,8 +190,7 @@ mod tests {
             (65, 40, refused(7, 2, 65, 40)),
             (64, 41, refused(7, 2, 64, 41)),
         ] {
-            same(
-                &rt,
+            assert_eq!(rt;
                 answered(file_security(&mut steps, security, day, 1, 0, 1)),
                 wanted,
             );
@@ -240,16 +216,16 @@ mod tests {
         Ok(steps)
     }
 
-    fn quoted(report: Report) -> Answer {
-        match (source(), year()) {
-            (Ok(steps), Ok(calendar)) => answered(charges(&steps, &calendar, &[false; 90], report)),
-            _ => refused(255, 0, 0, 0),
-        }
+    // The answer, or the fault of the sheets or days that it rests on.
+    fn quoted(report: Report) -> Result<Answer, Fault> {
+        let steps = source()?;
+        let calendar = year()?;
+        Ok(answered(charges(&steps, &calendar, &[false; 90], report)))
     }
 
     fn all(rt: &impl Abort, cases: &[(Report, Answer)]) {
-        for case in cases {
-            same(rt, quoted(case.0), case.1);
+        for (report, wanted) in cases {
+            assert_eq!(rt; quoted(*report), Ok(*wanted));
         }
     }
 
@@ -576,7 +552,7 @@ mod tests {
             (372, 373, refused(6, 4, 372, 0)),
             (0, 372, refused(6, 4, 372, 0)),
         ] {
-            same(&rt, answered(open_days(&mut calendar, first, last)), wanted);
+            assert_eq!(rt; answered(open_days(&mut calendar, first, last)), wanted);
         }
         assert!(rt; calendar.business[0] && calendar.business[371]);
     }

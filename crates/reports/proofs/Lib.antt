@@ -1,5 +1,3 @@
-pub mod Marking
 pub mod Between
-pub mod Fits
 pub mod Using
 pub mod Failing

@@ -1,5 +1,7 @@
 -- Business days. Assumes nothing.
-use Rattle.std.specs.Prelude.{◌≡◌, ℕ, zero, suc, ◌+◌, ◌-◌, Bool, true, false, cond, ◌&&◌, ◌||◌, List, [], ◌∷◌, Option, nat_le, nat_lt, slice_index_or}
+use Rattle.std.specs.Prelude.{◌≡◌, ℕ, ◌+◌, ◌-◌, Bool, true, false, ◌&&◌, ◌||◌, List, [], ◌∷◌, Option, nat_le, nat_lt, slice_index_or}
+use Rattle.std.specs.List.{filter, range_with_len}
+use Rattle.reports.specs.declared.report.Span.{Span}
 use Rattle.sheets.specs.declared.fault.Fault.{Fault}
 use Rattle.sheets.specs.declared.fault.Layer.TheVariants.{Book}
 use Rattle.sheets.specs.Refusals.{or_next, day_refusal}
@@ -22,12 +24,15 @@ Opened before after first last = (d : ℕ) → is_business after d ≡ (is_busin
 
 -- the business days among the n days from d on
 abbrev pub business_days : List Bool → ℕ → ℕ → List ℕ
-business_days marks d zero = []
-business_days marks d (suc n) = cond (is_business marks d) (d ∷ business_days marks (d + 1) n) (business_days marks (d + 1) n)
+business_days marks d n = filter (is_business marks) (range_with_len d n)
 
 -- the business days from d to before the day end
 abbrev pub days_between : List Bool → ℕ → ℕ → List ℕ
 days_between marks d end = business_days marks d (end - d)
+
+-- the used days of a trade
+abbrev pub days_of : List Bool → Span → List ℕ
+days_of marks span = days_between marks span.from span.end
 
 -- the last of some days, or else the day d
 abbrev pub last_or : ℕ → List ℕ → ℕ

@@ -1,5 +1,5 @@
 -- What a report must be, which days it uses, and who fails. Assumes nothing.
-use Rattle.std.specs.Prelude.{◌≡◌, ℕ, ◌+◌, ◌%◌, Bool, cond, not, ◌&&◌, ◌||◌, List, [], ◌∷◌, None, Option, ◌==◌, nat_le, nat_lt}
+use Rattle.std.specs.Prelude.{◌≡◌, ℕ, ◌+◌, ◌%◌, Bool, true, false, cond, not, ◌&&◌, ◌||◌, List, [], ◌∷◌, None, Option, MatchOption, ◌==◌, nat_le, nat_lt}
 use Rattle.sheets.specs.declared.fault.Fault.{Fault}
 use Rattle.sheets.specs.declared.fault.Rule.TheVariants.{NoSuchParty, FieldsUnfit, ReasonsUnlawful, NoBusinessDay, NoUsedDay}
 use Rattle.sheets.specs.declared.fault.Layer.TheVariants.{Book}
@@ -12,10 +12,16 @@ use Rattle.reports.specs.declared.report.Kind.{Kind}
 use Rattle.reports.specs.declared.report.Kind.TheVariants.{AgainstPayment, FreeOfPayment, WithPayment, PaymentOnly}
 use Rattle.reports.specs.declared.report.Failing.{Failing}
 use Rattle.reports.specs.declared.report.Failing.TheVariants.{OnlyDeliverer, OnlyReceiver, Both}
+use Rattle.reports.specs.declared.report.Exchange.{Exchange}
 use Rattle.reports.specs.declared.report.Span.{Span}
 use Rattle.reports.specs.declared.report.Trade.{Trade}
-use Rattle.reports.specs.Days.{is_business, days_between, is_empty}
-use Rattle.reports.specs.Terms.{Terms, terms_of}
+use Rattle.reports.specs.Days.{is_business, days_between, days_of, is_empty}
+use Rattle.reports.specs.Kinds.{is_kind, kind_number}
+use Rattle.reports.specs.Terms.{Terms, exchange_kind, terms_between, terms_of}
+
+-- Nothing is made, where the test fails, and otherwise what was made is so.
+abbrev pub Fit : {A : Type 0} → Bool → Option A → (A → Type 0) → Type 0
+Fit fits r P = MatchOption r (fits ≡ false) (λ a. (fits ≡ true) × P a)
 
 -- a party is 1000 to 9999
 abbrev pub is_party : ℕ → Bool
@@ -30,18 +36,18 @@ abbrev pub kind_of : ℕ → Kind
 kind_of n = cond (n == 1) AgainstPayment (cond (n == 2) FreeOfPayment (cond (n == 3) WithPayment PaymentOnly))
 
 -- a payment alone has no securities, each other trade has some
-abbrev pub securities_fit : Report → Bool
-securities_fit r = cond (r.kind == 4) (r.quantity == 0 && r.security == 0) (nat_le 1 r.quantity)
+abbrev pub securities_fit : ℕ → ℕ → ℕ → Bool
+securities_fit kind quantity security = cond (kind == 4) (quantity == 0 && security == 0) (nat_le 1 quantity)
 
 -- a trade free of payment has no cash, each other has some in a settlement currency
-abbrev pub cash_fits : Report → Bool
-cash_fits r = cond (r.kind == 2) (r.cash == 0 && r.currency == 0) (nat_le 1 r.cash && nat_le r.currency last_settlement_currency)
+abbrev pub cash_fits : ℕ → ℕ → ℕ → Bool
+cash_fits kind cash currency = cond (kind == 2) (cash == 0 && currency == 0) (nat_le 1 cash && nat_le currency last_settlement_currency)
 
 -- the fields fit the type; a security that a type uses is judged apart
 abbrev pub fields_fit : Report → Bool
 fields_fit r =
-    (nat_le 1 r.kind && nat_le r.kind 4)
-    && ((nat_le r.quantity greatest_quantity && nat_le r.cash greatest_cash) && (securities_fit r && cash_fits r))
+    is_kind r.kind
+    && ((nat_le r.quantity greatest_quantity && nat_le r.cash greatest_cash) && (securities_fit r.kind r.quantity r.security && cash_fits r.kind r.cash r.currency))
 
 -- 1 own lack, 3 own linked instruction missing, 5 own hold; 2, 4 and 6 say the same of the counterparty
 abbrev pub is_reason : ℕ → Bool
@@ -58,35 +64,57 @@ is_met own other = is_odd own || other + 1 == own
 abbrev pub reasons_fit : ℕ → ℕ → ℕ → Bool
 reasons_fit kind d r = (is_reason d && is_reason r) && ((is_met d r && is_met r d) && (kind == 1 || not (r == 1)))
 
--- who fails: each side with an odd reason, or the side that accepted later, at equal times the deliverer
+-- each side with an odd reason fails
+abbrev pub failing_by_reasons : ℕ → ℕ → Failing
+failing_by_reasons d r = cond (is_odd d) (cond (is_odd r) Both OnlyDeliverer) OnlyReceiver
+
+-- the side that accepted later fails, at equal times the deliverer
+abbrev pub failing_by_times : ℕ → ℕ → Failing
+failing_by_times d r = cond (nat_lt d r) OnlyReceiver OnlyDeliverer
+
 abbrev pub failing_of : Cause → Failing
-failing_of (Fail day d r) = cond (is_odd d) (cond (is_odd r) Both OnlyDeliverer) OnlyReceiver
-failing_of (Late intended matched after d r) = cond (nat_lt d r) OnlyReceiver OnlyDeliverer
+failing_of (Fail day d r) = failing_by_reasons d r
+failing_of (Late intended matched after d r) = failing_by_times d r
+
+-- the used days of a late match
+abbrev pub late_days : List Bool → ℕ → ℕ → Bool → List ℕ
+late_days marks intended matched after = days_between marks intended (cond after (matched + 1) matched)
 
 -- the used days
 abbrev pub used_days : List Bool → Cause → List ℕ
 used_days marks (Fail day d r) = day ∷ []
-used_days marks (Late intended matched after d r) = days_between marks intended (cond after (matched + 1) matched)
+used_days marks (Late intended matched after d r) = late_days marks intended matched after
 
 -- the tests of days and reasons
-abbrev pub cause_refusal : List Bool → ℕ → Cause → Option Fault
-cause_refusal marks kind (Fail day d r) =
+abbrev pub fail_refusal : List Bool → ℕ → ℕ → ℕ → ℕ → Option Fault
+fail_refusal marks kind day d r =
     or_next (day_refusal Book day)
     (when (not (reasons_fit kind d r)) (fault ReasonsUnlawful Book d r)
     (when (not (is_business marks day)) (fault NoBusinessDay Book 0 day) None))
-cause_refusal marks kind (Late intended matched after d r) =
+
+abbrev pub late_refusal : List Bool → ℕ → ℕ → Bool → Option Fault
+late_refusal marks intended matched after =
     or_next (day_refusal Book intended)
     (or_next (day_refusal Book matched)
     (when (not (is_business marks matched)) (fault NoBusinessDay Book 0 matched)
-    (when (is_empty (used_days marks (Late intended matched after d r))) (fault NoUsedDay Book intended matched) None)))
+    (when (is_empty (late_days marks intended matched after)) (fault NoUsedDay Book intended matched) None)))
+
+abbrev pub cause_refusal : List Bool → ℕ → Cause → Option Fault
+cause_refusal marks kind (Fail day d r) = fail_refusal marks kind day d r
+cause_refusal marks kind (Late intended matched after d r) = late_refusal marks intended matched after
+
+-- the tests of the fields, and of a security that is used
+abbrev pub exchange_refusal : Report → Option Fault
+exchange_refusal r =
+    when (not (fields_fit r)) (fault FieldsUnfit Book r.kind 0)
+    (cond (r.kind == 4) None (security_refusal Book r.security))
 
 -- why a report is refused before anything is read
 abbrev pub report_refusal : List Bool → Report → Option Fault
 report_refusal marks r =
     when (not (parties_fit r)) (fault NoSuchParty Book r.instruction 0)
-    (when (not (fields_fit r)) (fault FieldsUnfit Book r.kind 0)
-    (or_next (cond (r.kind == 4) None (security_refusal Book r.security))
-    (cause_refusal marks r.kind r.cause)))
+    (or_next (exchange_refusal r)
+    (cause_refusal marks r.kind r.cause))
 
 -- the terms as reported
 abbrev pub report_terms : Report → Terms
@@ -100,9 +128,14 @@ report_terms r = record {
   currency = r.currency;
 }
 
+-- what is exchanged is what was reported
+pub record ExchangeOf (r : Report) (e : Exchange) : Type 0 where
+  pub kind_is : kind_number (exchange_kind e) ≡ r.kind
+  pub terms_are : terms_between r.deliverer r.receiver e ≡ report_terms r
+
 -- the used days and who fails, as the code keeps them
 pub record SpanOf (marks : List Bool) (cause : Cause) (s : Span) : Type 0 where
-  pub days_are : days_between marks s.from s.end ≡ used_days marks cause
+  pub days_are : days_of marks s ≡ used_days marks cause
   pub failing_is : s.failing ≡ failing_of cause
 
 -- the trade is the one that was reported

@@ -1,251 +1,210 @@
-// The check of a report, before anything is read.
-ghost use Rattle.std.specs.Prelude.{◌≡◌, ℕ, ◌+◌, ◌-◌, ◌<◌, ◌≤◌, Bool, false, IfOk, if◌then◌else◌, None, nat_eq};
-ghost use Rattle.sheets.specs.Refusals.{Answers, fault, security_refusal};
-ghost use Rattle.reports.specs.Days.{days_between};
+// The check of a report, before anything is read: it takes the raw numbers in, and hands on types.
+ghost use Rattle.std.specs.Prelude.{◌≡◌, ◌≤◌, IfOk, if◌then◌else◌};
+ghost use Rattle.sheets.specs.Refusals.{Answers, security_refusal};
+ghost use Rattle.reports.specs.Days.{days_of};
 ghost use Rattle.reports.specs.UsedDays.{UsedDays};
 ghost use Rattle.reports.specs.WhoFails.{WhoFails};
-ghost use Rattle.reports.specs.Reports.{is_party, parties_fit, kind_of, securities_fit, cash_fits, fields_fit, is_reason, is_odd, is_met, reasons_fit, failing_of, cause_refusal, report_refusal, SpanOf, TradeOf};
+ghost use Rattle.sheets.specs.Limits.{greatest_quantity};
+ghost use Rattle.reports.specs.Kinds.{kind_number};
+ghost use Rattle.reports.specs.Terms.{exchange_kind};
+ghost use Rattle.reports.specs.Reports.{Fit, parties_fit, securities_fit, cash_fits, fields_fit, reasons_fit, failing_by_reasons, fail_refusal, late_refusal, cause_refusal, exchange_refusal, report_refusal, ExchangeOf, SpanOf, TradeOf};
 
 use crate::calendar::Calendar;
-use crate::days::has_day;
-use crate::report::{Cause, Failing, Kind, Report, Span, Trade};
+use crate::reason::{Obstacle, Reason};
+use crate::report::{Cash, Cause, Exchange, Failing, Kind, Report, Securities, Span, Trade};
 use sheets::fault::{Fault, Layer, Rule};
-use sheets::limits::{
-    FIRST_PARTY, GREATEST_CASH, GREATEST_QUANTITY, LAST_PARTY, LAST_SETTLEMENT_CURRENCY,
-};
+use sheets::limits::{GREATEST_CASH, GREATEST_QUANTITY, LAST_SETTLEMENT_CURRENCY};
 use sheets::make;
+use sheets::units::{Currency, Party};
 
-fn refused(rule: Rule, first: u64, second: u64) -> Fault
-    ensures value { result ≡ fault rule Layer.Book first second }
+// The parties of an instruction that has a number, if both exist.
+fn parties_of(report: Report) -> Option<(Party, Party)>
+    ensures made { Fit (parties_fit report) result (λ p. (p.0.number ≡ report.deliverer) × (p.1.number ≡ report.receiver)) }
 {
-    Fault {
-        rule,
-        layer: Layer::Book,
-        place: (first, second),
+    if report.instruction == 0 {
+        return None;
     }
+    let deliverer = Party::try_from(report.deliverer).ok()?;
+    let receiver = Party::try_from(report.receiver).ok()?;
+    Some((deliverer, receiver))
 }
 
-fn is_party(party: u16) -> bool
-    ensures value { result ≡ is_party party }
-{
-    FIRST_PARTY <= party && party <= LAST_PARTY
-}
-
-fn parties_fit(report: Report) -> bool
-    ensures value { result ≡ parties_fit report }
-{
-    report.instruction != 0 && is_party(report.deliverer) && is_party(report.receiver)
-}
-
-fn securities_fit(report: Report) -> bool
-    ensures value { result ≡ securities_fit report }
-{
-    if report.kind == 4 {
-        report.quantity == 0 && report.security == 0
-    } else {
-        1 <= report.quantity
-    }
-}
-
-fn cash_fits(report: Report) -> bool
-    ensures value { result ≡ cash_fits report }
-{
-    if report.kind == 2 {
-        report.cash == 0 && report.currency == 0
-    } else {
-        1 <= report.cash && report.currency <= LAST_SETTLEMENT_CURRENCY
-    }
-}
-
-fn fields_fit(report: Report) -> bool
-    ensures value { result ≡ fields_fit report }
-{
-    1 <= report.kind
-        && report.kind <= 4
-        && report.quantity <= GREATEST_QUANTITY
-        && report.cash <= GREATEST_CASH
-        && securities_fit(report)
-        && cash_fits(report)
-}
-
-fn kind_of(kind: u8) -> Kind
-    ensures value { result ≡ kind_of kind }
+fn securities_fit(kind: Kind, quantity: u64, security: u16) -> bool
+    ensures value { result ≡ securities_fit (kind_number kind) quantity security }
 {
     match kind {
-        1 => Kind::AgainstPayment,
-        2 => Kind::FreeOfPayment,
-        3 => Kind::WithPayment,
-        _ => Kind::PaymentOnly,
+        Kind::PaymentOnly => quantity == 0 && security == 0,
+        _ => 1 <= quantity,
     }
 }
 
-fn is_reason(reason: u8) -> bool
-    ensures value { result ≡ is_reason reason }
+fn cash_fits(kind: Kind, cash: u64, currency: u8) -> bool
+    ensures value { result ≡ cash_fits (kind_number kind) cash currency }
 {
-    1 <= reason && reason <= 6
-}
-
-fn is_odd(reason: u8) -> bool
-    ensures value { result ≡ is_odd reason }
-{
-    reason % 2 == 1
-}
-
-fn is_met(own: u8, other: u8) -> bool
-    requires { other ≤ 6 }
-    ensures value { result ≡ is_met own other }
-{
-    is_odd(own) || other + 1 == own
-}
-
-fn reasons_fit(kind: u8, deliverer: u8, receiver: u8) -> bool
-    ensures value { result ≡ reasons_fit kind deliverer receiver }
-{
-    if !is_reason(deliverer) || !is_reason(receiver) {
-        return false;
+    match kind {
+        Kind::FreeOfPayment => cash == 0 && currency == 0,
+        _ => 1 <= cash && currency <= LAST_SETTLEMENT_CURRENCY,
     }
-    is_met(deliverer, receiver) && is_met(receiver, deliverer) && (kind == 1 || receiver != 1)
 }
 
-fn by_reasons(deliverer: u8, receiver: u8) -> Failing
-    ensures value { (d : ℕ) → result ≡ failing_of (Cause.Fail d deliverer receiver) }
+// The kind, if the fields fit it; a security that a kind uses is judged apart.
+fn kind_of(report: Report) -> Option<Kind>
+    ensures made { Fit (fields_fit report) result (λ k. kind_number k ≡ report.kind) }
 {
-    if is_odd(deliverer) {
-        if is_odd(receiver) {
-            Failing::Both
-        } else {
-            Failing::OnlyDeliverer
-        }
-    } else {
-        Failing::OnlyReceiver
+    let kind = Kind::try_from(report.kind).ok()?;
+    let fit = report.quantity <= GREATEST_QUANTITY
+        && report.cash <= GREATEST_CASH
+        && securities_fit(kind, report.quantity, report.security)
+        && cash_fits(kind, report.cash, report.currency);
+    fit.then_some(kind)
+}
+
+// What is exchanged, or the first rule that the fields break.
+fn exchange_of(report: Report) -> Result<Exchange, Fault>
+    ensures made { Answers (exchange_refusal report) result (ExchangeOf report) }
+{
+    let kind = kind_of(report).ok_or_else(|| Layer::Book.refuses(
+        Rule::FieldsUnfit,
+        u64::from(report.kind),
+        0,
+    ))?;
+    let cash = Cash {
+        amount: report.cash,
+        currency: Currency {
+            number: report.currency,
+        },
+    };
+    Ok(match kind {
+        Kind::AgainstPayment => Exchange::AgainstPayment(securities_of(report)?, cash),
+        Kind::FreeOfPayment => Exchange::FreeOfPayment(securities_of(report)?),
+        Kind::WithPayment => Exchange::WithPayment(securities_of(report)?, cash),
+        Kind::PaymentOnly => Exchange::PaymentOnly(cash),
+    })
+}
+
+fn securities_of(report: Report) -> Result<Securities, Fault>
+    requires { report.quantity ≤ greatest_quantity }
+    ensures made { Answers (security_refusal Layer.Book report.security) result (λ s. (s.security.number ≡ report.security) × (s.quantity ≡ report.quantity)) }
+{
+    Ok(Securities {
+        security: make::security(Layer::Book, report.security)?,
+        quantity: report.quantity as u32,
+    })
+}
+
+// Who fails by the reasons, if these are lawful: each side with a reason of its own.
+fn failing_by_reasons(exchange: Exchange, deliverer: u8, receiver: u8) -> Option<Failing>
+    ensures made { Fit (reasons_fit (kind_number (exchange_kind exchange)) deliverer receiver) result (λ f. f ≡ failing_by_reasons deliverer receiver) }
+{
+    let deliverer = Reason::try_from(deliverer).ok()?;
+    let receiver = Reason::try_from(receiver).ok()?;
+    // A receiver lacks something of its own only against payment.
+    let may_lack = matches!(exchange, Exchange::AgainstPayment(..))
+        || receiver != Reason::Own(Obstacle::Lack);
+    if !deliverer.is_met(receiver) || !receiver.is_met(deliverer) || !may_lack {
+        return None;
     }
+    Some(match (deliverer, receiver) {
+        (Reason::Own(_), Reason::Own(_)) => Failing::Both,
+        (Reason::Own(_), Reason::Other(_)) => Failing::OnlyDeliverer,
+        (Reason::Other(_), _) => Failing::OnlyReceiver,
+    })
 }
 
 fn check_fail(
     calendar: &Calendar,
-    kind: u8,
+    exchange: Exchange,
     day: u16,
     deliverer: u8,
     receiver: u8,
 ) -> Result<Span, Fault>
-    ensures made { Answers (cause_refusal calendar.now.business kind (Cause.Fail day deliverer receiver)) result (SpanOf calendar.now.business (Cause.Fail day deliverer receiver)) }
+    ensures made { Answers (fail_refusal calendar.now.business (kind_number (exchange_kind exchange)) day deliverer receiver) result (SpanOf calendar.now.business (Cause.Fail day deliverer receiver)) }
 {
-    let d = make::day(Layer::Book, day)?;
-    if !reasons_fit(kind, deliverer, receiver) {
-        return Err(refused(Rule::ReasonsUnlawful, deliverer as u64, receiver as u64));
-    }
-    if !calendar.business[d.number as usize] {
-        return Err(refused(Rule::NoBusinessDay, 0, day as u64));
+    let from = make::day(Layer::Book, day)?.number;
+    let failing = failing_by_reasons(exchange, deliverer, receiver).ok_or_else(
+        || Layer::Book.refuses(
+            Rule::ReasonsUnlawful,
+            u64::from(deliverer),
+            u64::from(receiver),
+        ),
+    )?;
+    if !calendar.is_business(day) {
+        return Err(Layer::Book.refuses(Rule::NoBusinessDay, 0, u64::from(day)));
     }
     Ok(Span {
-        from: day,
-        end: day + 1,
-        failing: by_reasons(deliverer, receiver),
+        from,
+        end: from + 1,
+        failing,
     })
-}
-
-fn by_times(deliverer: u32, receiver: u32) -> Failing
-    ensures value { (i m : ℕ) (a : Bool) → result ≡ failing_of (Cause.Late i m a deliverer receiver) }
-{
-    if deliverer < receiver {
-        Failing::OnlyReceiver
-    } else {
-        Failing::OnlyDeliverer
-    }
 }
 
 fn check_late(
     calendar: &Calendar,
-    kind: u8,
     intended: u16,
     matched: u16,
     after: bool,
     deliverer: u32,
     receiver: u32,
 ) -> Result<Span, Fault>
-    ensures made { Answers (cause_refusal calendar.now.business kind (Cause.Late intended matched after deliverer receiver)) result (SpanOf calendar.now.business (Cause.Late intended matched after deliverer receiver)) }
+    ensures made { Answers (late_refusal calendar.now.business intended matched after) result (SpanOf calendar.now.business (Cause.Late intended matched after deliverer receiver)) }
 {
-    let from = make::day(Layer::Book, intended)?;
+    let from = make::day(Layer::Book, intended)?.number;
     let day = make::day(Layer::Book, matched)?;
-    if !calendar.business[day.number as usize] {
-        return Err(refused(Rule::NoBusinessDay, 0, matched as u64));
+    if !calendar.is_business(matched) {
+        return Err(Layer::Book.refuses(Rule::NoBusinessDay, 0, u64::from(matched)));
     }
-    let end = end_of(day.number, after);
-    if !has_day(calendar, from.number, end) {
-        return Err(refused(Rule::NoUsedDay, intended as u64, matched as u64));
+    let end = if after { day.number + 1 } else { day.number };
+    if !calendar.has_day(from, end) {
+        return Err(Layer::Book.refuses(Rule::NoUsedDay, u64::from(intended), u64::from(matched)));
     }
     Ok(Span {
-        from: from.number,
+        from,
         end,
-        failing: by_times(deliverer, receiver),
+        // At equal times the deliverer fails.
+        failing: if deliverer < receiver {
+            Failing::OnlyReceiver
+        } else {
+            Failing::OnlyDeliverer
+        },
     })
 }
 
-// The end of the used days of a late match.
-fn end_of(matched: u16, after: bool) -> u16
-    requires { matched ≤ 371 }
-    ensures is { result ≡ (if after then matched + 1 else matched) }
-    ensures year { result ≤ 372 }
-{
-    if after { matched + 1 } else { matched }
-}
-
-fn check_cause(calendar: &Calendar, kind: u8, cause: Cause) -> Result<Span, Fault>
-    ensures made { Answers (cause_refusal calendar.now.business kind cause) result (SpanOf calendar.now.business cause) }
+fn check_cause(calendar: &Calendar, exchange: Exchange, cause: Cause) -> Result<Span, Fault>
+    ensures made { Answers (cause_refusal calendar.now.business (kind_number (exchange_kind exchange)) cause) result (SpanOf calendar.now.business cause) }
 {
     match cause {
         Cause::Fail {
             day,
             deliverer,
             receiver,
-        } => check_fail(calendar, kind, day, deliverer, receiver),
+        } => check_fail(calendar, exchange, day, deliverer, receiver),
         Cause::Late {
             intended,
             matched,
             after,
             deliverer,
             receiver,
-        } => {
-            check_late(
-                calendar, kind, intended, matched, after, deliverer, receiver,
-            )
-        }
+        } => check_late(calendar, intended, matched, after, deliverer, receiver),
     }
-}
-
-// Refusal of a security that is used.
-fn check_security(kind: u8, security: u16) -> Result<(), Fault>
-    ensures made { Answers (if nat_eq kind 4 then None else security_refusal Layer.Book security) result (λ _. Unit {0}) }
-{
-    if kind == 4 {
-        return Ok(());
-    }
-    let _s = make::security(Layer::Book, security)?;
-    Ok(())
 }
 
 // The trade of a report, or the first rule that the report breaks.
 pub fn check(calendar: &Calendar, report: Report) -> Result<Trade, Fault>
     ensures made { Answers (report_refusal calendar.now.business report) result (TradeOf calendar.now.business report) }
     ensures sides { IfOk result (λ t. WhoFails report.cause t.span.failing) }
-    ensures used { IfOk result (λ t. UsedDays calendar.now.business report.cause (days_between calendar.now.business t.span.from t.span.end)) }
+    ensures used { IfOk result (λ t. UsedDays calendar.now.business report.cause (days_of calendar.now.business t.span)) }
 {
-    if !parties_fit(report) {
-        return Err(refused(Rule::NoSuchParty, report.instruction as u64, 0));
-    }
-    if !fields_fit(report) {
-        return Err(refused(Rule::FieldsUnfit, report.kind as u64, 0));
-    }
-    check_security(report.kind, report.security)?;
-    let span = check_cause(calendar, report.kind, report.cause)?;
+    let (deliverer, receiver) = parties_of(report).ok_or_else(|| Layer::Book.refuses(
+        Rule::NoSuchParty,
+        u64::from(report.instruction),
+        0,
+    ))?;
+    let exchange = exchange_of(report)?;
+    let span = check_cause(calendar, exchange, report.cause)?;
     Ok(Trade {
-        kind: kind_of(report.kind),
-        deliverer: report.deliverer,
-        receiver: report.receiver,
-        security: report.security,
-        quantity: report.quantity as u32,
-        cash: report.cash,
-        currency: report.currency,
+        exchange,
+        deliverer,
+        receiver,
         span,
     })
 }

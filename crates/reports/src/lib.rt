@@ -3,6 +3,6 @@
 
 pub mod calendar;
 pub mod check;
-pub mod days;
 pub mod open;
+mod reason;
 pub mod report;

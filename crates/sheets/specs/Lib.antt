@@ -1,4 +1,5 @@
 pub mod Limits
+pub mod Units
 pub mod Numbers
 pub mod Classes
 pub mod Refusals

@@ -1,8 +1,9 @@
 // Why a call is turned away: the rule that was broken, the layer that found it, and the place.
 ghost use Rattle.std.specs.Prelude.{◌≡◌};
 ghost use Rattle.sheets.specs.Numbers.{number_of, layer_number};
+ghost use Rattle.sheets.specs.Refusals.{fault};
 
-#[derive(Clone, Copy)]
+#[derive(Clone, Copy, Debug, PartialEq, Eq)]
 pub enum Rule {
     ValueOutside = 1,
     NoSuchClass = 2,
@@ -21,7 +22,7 @@ pub enum Rule {
     ValueTooLarge = 17,
 }
 
-#[derive(Clone, Copy)]
+#[derive(Clone, Copy, Debug, PartialEq, Eq)]
 pub enum Layer {
     Sheet = 1,
     Source = 2,
@@ -29,11 +30,25 @@ pub enum Layer {
     Book = 4,
 }
 
-#[derive(Clone, Copy)]
+// A place is two numbers; where a rule has one alone, the second is 0.
+#[derive(Clone, Copy, Debug, PartialEq, Eq)]
 pub struct Fault {
     pub rule: Rule,
     pub layer: Layer,
     pub place: (u64, u64),
+}
+
+impl Layer {
+    // The layer turns a call away by the rule, at the place.
+    pub fn refuses(self, rule: Rule, first: u64, second: u64) -> Fault
+        ensures value { result ≡ fault rule self first second }
+    {
+        Fault {
+            rule,
+            layer: self,
+            place: (first, second),
+        }
+    }
 }
 
 impl Fault {

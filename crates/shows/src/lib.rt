@@ -1,36 +1,43 @@
-// How days, prices, money, rates, euro values, currencies and refusals are printed.
+// How days, prices, money, rates, euro values, currencies, charges and refusals are printed.
 #![tactic(auto)]
 
+use calculation::charge::Charge;
 use sheets::fault::{Fault, Rule};
 use std::fmt;
 use std::fmt::InlineText;
 
 // The number of a day, as MM-DD.
-#[derive(Clone, Copy)]
+#[derive(Clone, Copy, Debug, PartialEq, Eq)]
 pub struct Day(pub u64);
 
-// Ten-thousandths, with four decimals.
-#[derive(Clone, Copy)]
-pub struct Price(pub u64);
+// A number in units of its last decimal, of which it has PLACES.
+#[derive(Clone, Copy, Debug, PartialEq, Eq)]
+pub struct Decimal<const PLACES: u32> {
+    pub units: u64,
+}
 
-// Hundredths, with two decimals.
-#[derive(Clone, Copy)]
-pub struct Money(pub u64);
+// Ten-thousandths.
+pub type Price = Decimal<4>;
 
-// Hundred-millionths, with eight decimals.
-#[derive(Clone, Copy)]
-pub struct Rate(pub u64);
+// Hundredths.
+pub type Money = Decimal<2>;
 
-// Millionths of a euro, with six decimals.
-#[derive(Clone, Copy)]
-pub struct Value(pub u64);
+// Hundred-millionths.
+pub type Rate = Decimal<8>;
+
+// Millionths of a euro.
+pub type Value = Decimal<6>;
 
 // EUR, DKK or the currency's number.
-#[derive(Clone, Copy)]
+#[derive(Clone, Copy, Debug, PartialEq, Eq)]
 pub struct Currency(pub u64);
 
+// Who pays whom, in which currency and how much.
+#[derive(Clone, Copy, Debug, PartialEq, Eq)]
+pub struct Payment(pub Charge);
+
 // A refusal: its number, its layer and its place, and after a `#` what that means.
-#[derive(Clone, Copy)]
+#[derive(Clone, Copy, Debug, PartialEq, Eq)]
 pub struct Refusal(pub Fault);
 
 // `pad` keeps to the width of `{:>12}`, which `write!` would not.
@@ -42,35 +49,15 @@ impl fmt::Display for Day {
     }
 }
 
-impl fmt::Display for Price {
+impl<const PLACES: u32> fmt::Display for Decimal<PLACES> {
     fn fmt<W: fmt::Write>(&self, f: &mut fmt::Formatter<W>) -> fmt::Result {
-        let whole = self.0 / 10_000;
-        let part = self.0 % 10_000;
-        f.pad(InlineText::<32>::of(format_args!("{whole}.{part:04}")).as_str())
-    }
-}
-
-impl fmt::Display for Money {
-    fn fmt<W: fmt::Write>(&self, f: &mut fmt::Formatter<W>) -> fmt::Result {
-        let whole = self.0 / 100;
-        let part = self.0 % 100;
-        f.pad(InlineText::<32>::of(format_args!("{whole}.{part:02}")).as_str())
-    }
-}
-
-impl fmt::Display for Rate {
-    fn fmt<W: fmt::Write>(&self, f: &mut fmt::Formatter<W>) -> fmt::Result {
-        let whole = self.0 / 100_000_000;
-        let part = self.0 % 100_000_000;
-        f.pad(InlineText::<32>::of(format_args!("{whole}.{part:08}")).as_str())
-    }
-}
-
-impl fmt::Display for Value {
-    fn fmt<W: fmt::Write>(&self, f: &mut fmt::Formatter<W>) -> fmt::Result {
-        let whole = self.0 / 1_000_000;
-        let part = self.0 % 1_000_000;
-        f.pad(InlineText::<32>::of(format_args!("{whole}.{part:06}")).as_str())
+        // Where one is more than 64 bits can hold, the number is below it.
+        let (whole, part) = match 10u64.checked_pow(PLACES) {
+            Some(one) => (self.units / one, self.units % one),
+            None => (0, self.units),
+        };
+        let places = PLACES as usize;
+        f.pad(InlineText::<32>::of(format_args!("{whole}.{part:0places$}")).as_str())
     }
 }
 
@@ -84,52 +71,37 @@ impl fmt::Display for Currency {
     }
 }
 
-// What the rules on sheets and their keys mean, at the place where one was broken.
-fn sheet_meaning<W: fmt::Write>(
-    f: &mut fmt::Formatter<W>,
-    rule: Rule,
-    place: (u64, u64),
-) -> fmt::Result {
-    let number = place.0;
-    let day = Day(place.1);
-    match rule {
-        Rule::ValueOutside => write!(
-            f,
-            "a price is 0.0001 to 100000.0000; a euro value is up to 10.000000, the euro's 1.000000, the krone's at least 0.010000, any other's at least 0.000001"
-        ),
-        Rule::NoSuchClass => write!(f, "no class {number}: classes are 1 to 6"),
-        Rule::NoSuchCurrency => write!(f, "no currency {number}: currencies are 0 to 15"),
-        Rule::RateTooHigh => {
-            let rate = Rate(number);
-            write!(f, "a rate of {rate}: the highest is 0.00100000")
-        }
-        Rule::NoSuchSecurity => write!(f, "no security {number}: securities are 1 to 9999"),
-        Rule::NoSuchDay => {
-            let late = Day(number);
-            write!(f, "no day {late}: the year ends on 12-31")
-        }
-        Rule::NotTaken => write!(f, "no room in the source for {number} on {day}"),
-        Rule::SecurityMissing => write!(
-            f,
-            "no sheet of security {number} on {day}: enter one first"
-        ),
-        _ => {
-            let currency = Currency(number);
-            write!(
-                f,
-                "no sheet of currency {currency} on {day}: enter one first"
-            )
-        }
+impl fmt::Display for Payment {
+    fn fmt<W: fmt::Write>(&self, f: &mut fmt::Formatter<W>) -> fmt::Result {
+        let Payment(charge) = *self;
+        let failing = charge.failing;
+        let other = charge.other;
+        let currency = Currency(u64::from(charge.currency));
+        let amount = Money {
+            units: charge.amount,
+        };
+        write!(f, "charge {failing} to {other} {currency} {amount}")
     }
 }
 
-// What the rules mean, at the place where one was broken.
-fn meaning<W: fmt::Write>(f: &mut fmt::Formatter<W>, rule: Rule, place: (u64, u64)) -> fmt::Result {
-    let first = place.0;
-    let second = place.1;
+// What the rule means, at the place where it was broken.
+fn meaning<W: fmt::Write>(f: &mut fmt::Formatter<W>, fault: Fault) -> fmt::Result {
+    let (first, second) = fault.place;
     let from = Day(first);
     let day = Day(second);
-    match rule {
+    match fault.rule {
+        Rule::ValueOutside => f.write_str(
+            "a price is 0.0001 to 100000.0000; a euro value is up to 10.000000, the euro's 1.000000, the krone's at least 0.010000, any other's at least 0.000001",
+        ),
+        Rule::NoSuchClass => write!(f, "no class {first}: classes are 1 to 6"),
+        Rule::NoSuchCurrency => write!(f, "no currency {first}: currencies are 0 to 15"),
+        Rule::RateTooHigh => {
+            let rate = Rate { units: first };
+            write!(f, "a rate of {rate}: the highest is 0.00100000")
+        }
+        Rule::NoSuchSecurity => write!(f, "no security {first}: securities are 1 to 9999"),
+        Rule::NoSuchDay => write!(f, "no day {from}: the year ends on 12-31"),
+        Rule::NotTaken => write!(f, "no room in the source for {first} on {day}"),
         Rule::NoSuchParty => write!(
             f,
             "instruction {first}: an instruction is not 0, and a party is 1000 to 9999"
@@ -147,20 +119,31 @@ fn meaning<W: fmt::Write>(f: &mut fmt::Formatter<W>, rule: Rule, place: (u64, u6
             f,
             "no used day from {from} to {day}, and a late match needs one"
         ),
+        Rule::SecurityMissing => write!(
+            f,
+            "no sheet of security {first} on {day}: enter one first"
+        ),
+        Rule::CurrencyMissing => {
+            let currency = Currency(first);
+            write!(
+                f,
+                "no sheet of currency {currency} on {day}: enter one first"
+            )
+        }
         Rule::ValueTooLarge => write!(
             f,
             "quantity times price of security {first} on {day} is above 1000000000.0000"
         ),
-        _ => sheet_meaning(f, rule, place),
     }
 }
 
 impl fmt::Display for Refusal {
     fn fmt<W: fmt::Write>(&self, f: &mut fmt::Formatter<W>) -> fmt::Result {
-        let number = self.0.number();
-        let layer = self.0.layer_number();
-        let (first, second) = self.0.place;
+        let Refusal(fault) = *self;
+        let number = fault.number();
+        let layer = fault.layer_number();
+        let (first, second) = fault.place;
         write!(f, "refused {number} {layer} {first} {second} # ")?;
-        meaning(f, self.0.rule, self.0.place)
+        meaning(f, fault)
     }
 }

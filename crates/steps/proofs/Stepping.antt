@@ -1,7 +1,8 @@
 -- Of the entries of a number before and after a day.
-use Rattle.std.proofs.Common.{◌≡◌, ℕ, zero, suc, ◌+◌, ◌-◌, ◌<◌, ◌≤◌, max, Bool, true, false, ◌&&◌, eqb, ltb, leb, List, [], ◌∷◌, ◌++◌, length, get_or, take, is_some, IfOk, Some, None, Ok, Err, Option, Result, sym, refl, ap, ◌∙◌, subst, ⊎_elim, arith}
-use Rattle.std.proofs.lemmas.List.{take_more}
-use Rattle.std.proofs.lemmas.Bool.{both_ways, cases_Bool, cond-false, cases_order, cases_lt, and_parts, and_from, leb-true, ltb-true, le-leb, lt-ltb, eqb-true, eq-eqb}
+use Rattle.std.proofs.Common.{◌≡◌, ℕ, ◌-◌, ◌<◌, ◌≤◌, min, max, Bool, true, false, ◌&&◌, ◌⊎◌, eqb, ltb, leb, List, [], ◌∷◌, map, filter, is_some, Some, None, Ok, Err, Option, Result, sym, refl, ap, ◌∙◌, subst, inl, inr, ⊎_elim, arith}
+use Rattle.std.specs.List.{fold, reduce}
+use Rattle.std.specs.Option.{option_and_then, option_map_or}
+use Rattle.std.proofs.lemmas.Bool.{both_ways, cases_Bool, cond-true, cond-false, cases_lt, and_parts, and_from, leb-true, ltb-true, le-leb, lt-ltb, eqb-true, eq-eqb}
 use Rattle.sheets.specs.declared.fault.Fault.{Fault}
 use Rattle.sheets.specs.declared.sheet.SecuritySheet.{SecuritySheet}
 use Rattle.sheets.specs.declared.sheet.CurrencySheet.{CurrencySheet}
@@ -10,179 +11,172 @@ use Rattle.sheets.specs.Limits.{last_day}
 use Rattle.reference.specs.Meaning.{Taken, SecurityEntered, CurrencyEntered}
 use Rattle.plain_rows.specs.declared.rows.Row.{Row}
 use Rattle.plain_rows.specs.Rows.{found, sits, filed, holds, rows_table, any_number, own_number, RowTaken, RowEntered}
-use Rattle.carry.specs.Carried.{or_else, latest, spread, carried, whole_year, whole_year_lem}
+use Rattle.carry.specs.Carried.{latest, spread, carried, whole_year, whole_year_lem}
+use Rattle.steps.specs.declared.entries.Steps.{Steps}
 use Rattle.steps.specs.Steps.{steps_meaning}
-use Rattle.carry.specs.Laws.{Greatest}
-use Rattle.steps.specs.Stepped.{or_later, later_of, nearer_of, Last, LastStep, NextStep}
-use Rattle.carry.proofs.Carrying.{spread_greatest, spread_agree, carry_taken}
-use Rattle.plain_rows.proofs.Entering.{elsewhere}
-use Rattle.plain_rows.proofs.Plainly.{row_taken}
+use Rattle.carry.proofs.Carrying.{spread_agree, carry_taken}
+use Rattle.carry.proofs.Searches.{latest_bare, latest_at, spread_is}
+use Rattle.plain_rows.proofs.Entering.{elsewhere, row_taken}
 
 module _ {T : Type 0} (stands : ℕ → T → Bool) (k : ℕ) where
   -- a row sits at its own day only
-  pub sits_day : (x : ℕ) (r : Row T) → sits stands k x r ≡ true → (filed stands k r ≡ true) × (x ≡ r.day)
+  sits_day : (x : ℕ) (r : Row T) → sits stands k x r ≡ true → (filed stands k r ≡ true) × (x ≡ r.day)
   sits_day x r h = let both = and_parts (eqb r.day x) (filed stands k r) h in (both.1, sym (eqb-true r.day x both.0))
 
-  pub day_sits : (r : Row T) → filed stands k r ≡ true → sits stands k r.day r ≡ true
+  day_sits : (r : Row T) → filed stands k r ≡ true → sits stands k r.day r ≡ true
   day_sits r h = and_from (eqb r.day r.day) (filed stands k r) (eq-eqb r.day r.day refl) h
 
-  pub sits_not : (x : ℕ) (r : Row T) → (filed stands k r ≡ true → x ≡ r.day → ⊥) → sits stands k x r ≡ false
+  sits_not : (x : ℕ) (r : Row T) → (filed stands k r ≡ true → x ≡ r.day → ⊥) → sits stands k x r ≡ false
   sits_not x r n = ⊎_elim (λ h. absurd (n (sits_day x r h).0 (sits_day x r h).1)) (λ h. h) (cases_Bool (sits stands k x r))
 
   held_some : (o : Option T) → holds (stands k) o ≡ true → is_some o ≡ true
   held_some None h = absurd (both_ways false refl h)
   held_some (Some s) h = refl
 
-  -- a row that sits has a sheet
-  pub sits_some : (x : ℕ) (r : Row T) → sits stands k x r ≡ true → is_some r.sheet ≡ true
-  sits_some x r h = held_some r.sheet (and_parts (eqb r.number k) _ (sits_day x r h).0).1
+  -- the first row more
+  found_first : (x : ℕ) (r : Row T) (rows : List (Row T)) → sits stands k x r ≡ true → is_some (found (sits stands k x) (r ∷ rows)) ≡ true
+  found_first x r rows h =
+      ap (λ o. is_some (option_and_then (λ q. q.sheet) o)) (cond-true (sits stands k x r) _ _ h)
+      ∙ held_some r.sheet (and_parts (eqb r.number k) _ (sits_day x r h).0).1
 
-module _ {T : Type 0} (p : Row T → Bool) (r : Row T) where
-  -- one row more
-  pub push_none : (xs : List (Row T)) → found p xs ≡ None → p r ≡ false → found p (xs ++ r ∷ []) ≡ None
-  push_none [] h n = cond-false (p r) _ _ n
-  push_none (x ∷ xs) h n =
+  found_past : (x : ℕ) (r : Row T) (rows : List (Row T)) → sits stands k x r ≡ false → found (sits stands k x) (r ∷ rows) ≡ found (sits stands k x) rows
+  found_past x r rows h = ap (option_and_then (λ q. q.sheet)) (cond-false (sits stands k x r) _ _ h)
+
+  found_more : (x : ℕ) (r : Row T) (rows : List (Row T)) → is_some (found (sits stands k x) rows) ≡ true → is_some (found (sits stands k x) (r ∷ rows)) ≡ true
+  found_more x r rows h =
       ⊎_elim
-      (λ t. rw t (rw t at h))
-      (λ t. rw t (push_none xs (rw t at h) n))
-      (cases_Bool (p x))
+      (λ t. found_first x r rows t)
+      (λ t. ap is_some (found_past x r rows t) ∙ h)
+      (cases_Bool (sits stands k x r))
 
-  pub push_old : (xs : List (Row T)) → is_some (found p xs) ≡ true → is_some (found p (xs ++ r ∷ [])) ≡ true
-  push_old [] h = absurd (both_ways false refl h)
-  push_old (x ∷ xs) h =
-      ⊎_elim
-      (λ t. rw t (rw t at h))
-      (λ t. rw t (push_old xs (rw t at h)))
-      (cases_Bool (p x))
+-- The day b has an entry of the number k and passes the test q, and no day that passes and lies beyond b has one.
+record Best {T : Type 0} (stands : ℕ → T → Bool) (k : ℕ) (q : ℕ → Bool) (Beyond : ℕ → ℕ → Type 0) (rows : List (Row T)) (b : ℕ) : Type 0 where
+  passes : q b ≡ true
+  there : is_some (found (sits stands k b) rows) ≡ true
+  bare : (x : ℕ) → q x ≡ true → Beyond b x → found (sits stands k x) rows ≡ None
 
-  pub push_new : ((y : Row T) → p y ≡ true → is_some y.sheet ≡ true) → (xs : List (Row T)) → p r ≡ true → is_some (found p (xs ++ r ∷ [])) ≡ true
-  push_new some [] h = rw h (some r h)
-  push_new some (x ∷ xs) h =
-      ⊎_elim
-      (λ t. rw t (some x t))
-      (λ t. rw t (push_new some xs h))
-      (cases_Bool (p x))
+-- there is such a day, or no day that passes has an entry
+abbrev IsBest : {T : Type 0} → (ℕ → T → Bool) → ℕ → (ℕ → Bool) → (ℕ → ℕ → Type 0) → List (Row T) → Option ℕ → Type 0
+IsBest stands k q Beyond rows (Some b) = Best stands k q Beyond rows b
+IsBest stands k q Beyond rows None = (x : ℕ) → q x ≡ true → found (sits stands k x) rows ≡ None
 
-module _ {T : Type 0} (stands : ℕ → T → Bool) (xs : List (Row T)) (k d : ℕ) (r : Row T) where
-  new_there : filed stands k r ≡ true → is_some (found (sits stands k r.day) (xs ++ r ∷ [])) ≡ true
-  new_there a = push_new (sits stands k r.day) r (sits_some stands k r.day) xs (day_sits stands k r a)
+-- the days of the number's entries that pass the test
+abbrev pub entry_days : {T : Type 0} → (ℕ → T → Bool) → ℕ → (ℕ → Bool) → List (Row T) → List ℕ
+entry_days stands k q rows = map (λ r. r.day) (filter (λ r. filed stands k r && q r.day) rows)
 
-  -- the row is no entry of the number up to the day
-  last_keeps : (o : Option ℕ) → (filed stands k r ≡ true → r.day ≤ d → ⊥) → LastStep stands xs k d o → LastStep stands (xs ++ r ∷ []) k d o
-  last_keeps (Some b) n h = record {
-    by = h.by;
-    there = push_old (sits stands k b) r xs h.there;
-    bare = λ x l u. push_none (sits stands k x) r xs (h.bare x l u) (sits_not stands k x r (λ a e. n a (omega arith)));
-  }
-  last_keeps None n h = λ x u. push_none (sits stands k x) r xs (h x u) (sits_not stands k x r (λ a e. n a (omega arith)))
+-- `pick` takes the one of two days that lies beyond the other
+record Picks (pick : ℕ → ℕ → ℕ) (Beyond : ℕ → ℕ → Type 0) : Type 0 where
+  one : (a b : ℕ) → (pick a b ≡ a) ⊎ (pick a b ≡ b)
+  past : (a b x : ℕ) → Beyond (pick a b) x → Beyond a x × Beyond b x
+  other : (a x : ℕ) → Beyond a x → x ≡ a → ⊥
+  groups : (a b c : ℕ) → pick (pick a b) c ≡ pick a (pick b c)
 
-  last_takes : (o : Option ℕ) → filed stands k r ≡ true → r.day ≤ d → LastStep stands xs k d o → LastStep stands (xs ++ r ∷ []) k d (or_later o r.day)
-  last_takes None a u h = record {
-    by = u;
-    there = new_there a;
-    bare = λ x l v. push_none (sits stands k x) r xs (h x v) (sits_not stands k x r (λ _ e. omega arith));
-  }
-  last_takes (Some b) a u h = record {
-    by = omega (arith, h.by);
-    there =
+module _ (pick : ℕ → ℕ → ℕ) (Beyond : ℕ → ℕ → Type 0) (laws : Picks pick Beyond) where
+  fold_front : (a b : ℕ) (xs : List ℕ) → fold pick (pick a b) xs ≡ pick a (fold pick b xs)
+  fold_front a b [] = refl
+  fold_front a b (x ∷ xs) = ap (λ c. fold pick c xs) (laws.groups a b x) ∙ fold_front a (pick b x) xs
+
+  reduce_front : (a : ℕ) (xs : List ℕ) → reduce pick (a ∷ xs) ≡ Some (option_map_or (pick a) (reduce pick xs) a)
+  reduce_front a [] = refl
+  reduce_front a (x ∷ xs) = ap Some (fold_front a x xs)
+
+  module _ {T : Type 0} (stands : ℕ → T → Bool) (k : ℕ) (q : ℕ → Bool) where
+    keeps : (r : Row T) (rows : List (Row T)) (o : Option ℕ) → (filed stands k r && q r.day) ≡ false → IsBest stands k q Beyond rows o → IsBest stands k q Beyond (r ∷ rows) o
+    keeps r rows o n h = go o h
+      where
+        past : (x : ℕ) → q x ≡ true → found (sits stands k x) (r ∷ rows) ≡ found (sits stands k x) rows
+        past x a = found_past stands k x r rows (sits_not stands k x r (λ f e. both_ways (filed stands k r && q r.day) n (and_from _ _ f (ap q (sym e) ∙ a))))
+
+        go : (o : Option ℕ) → IsBest stands k q Beyond rows o → IsBest stands k q Beyond (r ∷ rows) o
+        go (Some b) h = record {
+          passes = h.passes;
+          there = ap is_some (past b h.passes) ∙ h.there;
+          bare = λ x a l. past x a ∙ h.bare x a l;
+        }
+        go None h = λ x a. past x a ∙ h x a
+
+    takes : (r : Row T) (rows : List (Row T)) (o : Option ℕ) → filed stands k r ≡ true → q r.day ≡ true → IsBest stands k q Beyond rows o → IsBest stands k q Beyond (r ∷ rows) (Some (option_map_or (pick r.day) o r.day))
+    takes r rows None f a h = record {
+      passes = a;
+      there = found_first stands k r.day r rows (day_sits stands k r f);
+      bare = λ x b l. found_past stands k x r rows (sits_not stands k x r (λ _ e. laws.other r.day x l e)) ∙ h x b;
+    }
+    takes r rows (Some b) f a h = record {
+      passes = ⊎_elim (λ e. ap q e ∙ a) (λ e. ap q e ∙ h.passes) (laws.one r.day b);
+      there =
+          ⊎_elim
+          (λ e. subst (λ x. is_some (found (sits stands k x) (r ∷ rows)) ≡ true) (sym e) (found_first stands k r.day r rows (day_sits stands k r f)))
+          (λ e. subst (λ x. is_some (found (sits stands k x) (r ∷ rows)) ≡ true) (sym e) (found_more stands k b r rows h.there))
+          (laws.one r.day b);
+      bare = λ x c l. let far = laws.past r.day b x l in found_past stands k x r rows (sits_not stands k x r (λ _ e. laws.other r.day x far.0 e)) ∙ h.bare x c far.1;
+    }
+
+    best : (rows : List (Row T)) → IsBest stands k q Beyond rows (reduce pick (entry_days stands k q rows))
+    best [] = λ x a. refl
+    best (r ∷ rows) =
         ⊎_elim
-        (λ l. let e : max b r.day ≡ r.day = omega arith in rw e (new_there a))
-        (λ l. let e : max b r.day ≡ b = omega arith in rw e (push_old (sits stands k b) r xs h.there))
-        (cases_lt b r.day);
-    bare = λ x l v. push_none (sits stands k x) r xs (h.bare x (omega arith) v) (sits_not stands k x r (λ _ e. omega arith));
-  }
+        (λ t. let both = and_parts (filed stands k r) (q r.day) t in
+        subst (IsBest stands k q Beyond (r ∷ rows))
+        (sym (ap (λ rs. reduce pick (map (λ (r : Row T). r.day) rs)) (cond-true (filed stands k r && q r.day) _ _ t) ∙ reduce_front r.day (entry_days stands k q rows)))
+        (takes r rows (reduce pick (entry_days stands k q rows)) both.0 both.1 (best rows)))
+        (λ t.
+        subst (IsBest stands k q Beyond (r ∷ rows))
+        (sym (ap (λ rs. reduce pick (map (λ (r : Row T). r.day) rs)) (cond-false (filed stands k r && q r.day) _ _ t)))
+        (keeps r rows (reduce pick (entry_days stands k q rows)) t (best rows)))
+        (cases_Bool (filed stands k r && q r.day))
 
-  -- the same of the entries after the day
-  next_keeps : (end : ℕ) → (filed stands k r ≡ true → d < r.day → r.day ≤ end → ⊥) → NextStep stands xs k d end → NextStep stands (xs ++ r ∷ []) k d end
-  next_keeps end n h = record {
-    from = h.from;
-    year = h.year;
-    bare = λ x l u. push_none (sits stands k x) r xs (h.bare x l u) (sits_not stands k x r (λ a e. n a (omega arith) (omega arith)));
-    stop = λ l. push_old (sits stands k (end + 1)) r xs (h.stop l);
-  }
+latest_picks : Picks max (λ b x. b < x)
+latest_picks = record {
+  one = λ a b. ⊎_elim (λ l. inr (omega arith)) (λ l. inl (omega arith)) (cases_lt a b);
+  past = λ a b x l. (omega arith, omega arith);
+  other = λ a x l e. omega arith;
+  groups = λ a b c. omega arith;
+}
 
-  next_takes : (end : ℕ) → filed stands k r ≡ true → d < r.day → r.day ≤ end → NextStep stands xs k d end → NextStep stands (xs ++ r ∷ []) k d (r.day - 1)
-  next_takes end a l u h = record {
-    from = omega arith;
-    year = omega (arith, h.year);
-    bare = λ x m v. push_none (sits stands k x) r xs (h.bare x m (omega arith)) (sits_not stands k x r (λ _ e. omega arith));
-    stop = λ m. let e : (r.day - 1) + 1 ≡ r.day = omega arith in rw e (new_there a);
-  }
+earliest_picks : Picks min (λ b x. x < b)
+earliest_picks = record {
+  one = λ a b. ⊎_elim (λ l. inl (omega arith)) (λ l. inr (omega arith)) (cases_lt a b);
+  past = λ a b x l. (omega arith, omega arith);
+  other = λ a x l e. omega arith;
+  groups = λ a b c. omega arith;
+}
 
-  pub last_more : (o : Option ℕ) → LastStep stands xs k d o → LastStep stands (xs ++ r ∷ []) k d (later_of stands k d r o)
-  last_more o h =
-      ⊎_elim
-      (λ t. let both = and_parts (filed stands k r) (leb r.day d) t in rw t (last_takes o both.0 (leb-true _ _ both.1) h))
-      (λ t. rw t (last_keeps o (λ a u. both_ways _ t (and_from _ _ a (le-leb _ _ u))) h))
-      (cases_Bool (filed stands k r && leb r.day d))
+some_sheet : {T : Type 0} (o : Option T) → is_some o ≡ true → (s : T) × (o ≡ Some s)
+some_sheet (Some s) h = (s, refl)
+some_sheet None h = absurd (both_ways false refl h)
 
-  pub next_more : (end : ℕ) → NextStep stands xs k d end → NextStep stands (xs ++ r ∷ []) k d (nearer_of stands k d r end)
-  next_more end h =
-      ⊎_elim
-      (λ t. let all = and_parts (filed stands k r) (ltb d r.day && leb r.day end) t in let days = and_parts (ltb d r.day) (leb r.day end) all.1 in
-      rw t (next_takes end all.0 (ltb-true _ _ days.0) (leb-true _ _ days.1) h))
-      (λ t. rw t (next_keeps end (λ a l u. both_ways _ t (and_from _ _ a (and_from _ _ (lt-ltb _ _ l) (le-leb _ _ u)))) h))
-      (cases_Bool (filed stands k r && (ltb d r.day && leb r.day end)))
+module _ {T : Type 0} (stands : ℕ → T → Bool) (rows : List (Row T)) (k d : ℕ) (year : d ≤ last_day) where
+  abbrev t : ℕ → Option T
+  t = (rows_table stands rows).sheet k
 
--- one turn of a loop over the rows
-module _ {T : Type 0} (stands : ℕ → T → Bool) (rows : List (Row T)) (k d i : ℕ) (z : Row T) (within : i < length rows) where
-  pub last_turn : (o n : Option ℕ) → n ≡ later_of stands k d (get_or rows i z) o → LastStep stands (take i rows) k d o → LastStep stands (take (i + 1) rows) k d n
-  last_turn o n e h =
-      subst (λ xs. LastStep stands xs k d n) (sym (take_more rows i z within))
-      (subst (LastStep stands (take i rows ++ get_or rows i z ∷ []) k d) (sym e) (last_more stands (take i rows) k d (get_or rows i z) o h))
+  -- the sheet of the latest entry up to the day is the latest sheet
+  pub latest_entry : option_and_then t (reduce max (entry_days stands k (λ x. leb x d) rows)) ≡ latest t whole_year d
+  latest_entry = go (reduce max (entry_days stands k (λ x. leb x d) rows)) (best max (λ b x. b < x) latest_picks stands k (λ x. leb x d) rows)
+    where
+      go : (o : Option ℕ) → IsBest stands k (λ x. leb x d) (λ b x. b < x) rows o → option_and_then t o ≡ latest t whole_year d
+      go None h = sym (latest_bare t whole_year d (λ i l. h (d - i) (le-leb _ _ (omega arith))))
+      go (Some b) h =
+          let by : b ≤ d = leb-true b d h.passes in
+          let sheet = some_sheet (t b) h.there in
+          sheet.1 ∙ sym (latest_at t whole_year d (d - b) sheet.0 (omega (arith, whole_year_lem)) (ap t (omega arith) ∙ sheet.1) (λ i l. h.bare (d - i) (le-leb _ _ (omega arith)) (omega arith)))
 
-  pub next_turn : (end n : ℕ) → n ≡ nearer_of stands k d (get_or rows i z) end → NextStep stands (take i rows) k d end → NextStep stands (take (i + 1) rows) k d n
-  next_turn end n e h =
-      subst (λ xs. NextStep stands xs k d n) (sym (take_more rows i z within))
-      (subst (NextStep stands (take i rows ++ get_or rows i z ∷ []) k d) (sym e) (next_more stands (take i rows) k d (get_or rows i z) end h))
-
-module _ {T : Type 0} where
-  some_else : (o q : Option T) → is_some o ≡ true → or_else o q ≡ o
-  some_else (Some x) q h = refl
-  some_else None q h = absurd (both_ways false refl h)
-
-  latest_none : (t : ℕ → Option T) (n d : ℕ) → ((x : ℕ) → x ≤ d → t x ≡ None) → latest t n d ≡ None
-  latest_none t zero d h = h d (omega arith)
-  latest_none t (suc n) d h = rw (h d (omega arith)) (latest_none t n (d - 1) (λ x l. h x (omega arith)))
-
-  -- the latest sheet is that of the day b, after which no day has one
-  latest_is : (t : ℕ → Option T) (b n d : ℕ) → b ≤ d → d - n ≤ b → is_some (t b) ≡ true → ((x : ℕ) → b < x → x ≤ d → t x ≡ None) → latest t n d ≡ t b
-  latest_is t b zero d l m s h = ap t (omega arith)
-  latest_is t b (suc n) d l m s h =
-      ⊎_elim
-      (λ e. some_else (t d) _ (ap (λ x. is_some (t x)) (sym e) ∙ s) ∙ ap t (sym e))
-      (⊎_elim
-      (λ e. rw (h d e (omega arith)) (latest_is t b n (d - 1) (omega arith) (omega arith) s (λ x p q. h x p (omega arith))))
-      (λ e. absurd (omega arith)))
-      (cases_order b d)
-
-module _ {T : Type 0} (stands : ℕ → T → Bool) (rows : List (Row T)) (k d : ℕ) where
-  pub last_sheet : (b : ℕ) → d ≤ last_day → Last stands rows k d b → latest ((rows_table stands rows).sheet k) whole_year d ≡ (rows_table stands rows).sheet k b
-  last_sheet b y h = latest_is ((rows_table stands rows).sheet k) b whole_year d h.by (omega (arith, whole_year_lem)) h.there h.bare
-
-  pub last_none : ((x : ℕ) → x ≤ d → found (sits stands k x) rows ≡ None) → latest ((rows_table stands rows).sheet k) whole_year d ≡ None
-  last_none h = latest_none ((rows_table stands rows).sheet k) whole_year d h
-
-  pub next_spread : (r : ℕ) → d ≤ last_day → NextStep stands rows k d r → r ≡ spread ((rows_table stands rows).sheet k) whole_year d
-  next_spread r y h =
-      let t = (rows_table stands rows).sheet k in
-      let e = spread t whole_year d in
-      let far = spread_greatest t whole_year d y in
-      let low : r ≤ e = far.most r (omega (arith, whole_year_lem, h.year)) h.year h.bare in
-      let high : e ≤ r =
-      ⊎_elim
-      (λ l. let none = far.bare (r + 1) (omega (arith, h.from)) (omega arith) in absurd (both_ways (is_some (t (r + 1))) (ap is_some none) (h.stop (omega (arith, far.year)))))
-      (λ l. l)
-      (cases_lt r e)
-      in
-      omega arith
+  -- the day before the earliest entry after the day is the last that an entry of the day reaches
+  pub next_entry : option_map_or (λ n. min last_day (n - 1)) (reduce min (entry_days stands k (λ x. ltb d x) rows)) last_day ≡ spread t whole_year d
+  next_entry = go (reduce min (entry_days stands k (λ x. ltb d x) rows)) (best min (λ b x. x < b) earliest_picks stands k (λ x. ltb d x) rows)
+    where
+      go : (o : Option ℕ) → IsBest stands k (λ x. ltb d x) (λ b x. x < b) rows o → option_map_or (λ n. min last_day (n - 1)) o last_day ≡ spread t whole_year d
+      go None h = spread_is t whole_year d year last_day year (omega (arith, whole_year_lem)) (omega arith) (λ x l u. h x (lt-ltb _ _ l)) (λ l m. absurd (omega arith))
+      go (Some n) h =
+          let after : d < n = ltb-true d n h.passes in
+          spread_is t whole_year d year (min last_day (n - 1)) (omega arith) (omega (arith, whole_year_lem)) (omega arith)
+          (λ x l u. h.bare x (lt-ltb _ _ l) (omega arith))
+          (λ l m. ap (λ x. is_some (t x)) (omega arith) ∙ h.there)
 
 module _ {T : Type 0} (stands : ℕ → T → Bool) (before after : List (Row T)) (k d : ℕ) (s : T) where
   -- the entry that follows is the same before and after
-  pub step_reach : (e r : ℕ) → d ≤ last_day → RowTaken stands before after k d s d e → NextStep stands after k d r → r ≡ spread ((rows_table stands before).sheet k) whole_year d
-  step_reach e r y h n =
-      next_spread stands after k d r y n
-      ∙ spread_agree ((rows_table stands before).sheet k) ((rows_table stands after).sheet k) whole_year d
+  pub step_reach : (e : ℕ) → RowTaken stands before after k d s d e → spread ((rows_table stands after).sheet k) whole_year d ≡ spread ((rows_table stands before).sheet k) whole_year d
+  step_reach e h =
+      spread_agree ((rows_table stands before).sheet k) ((rows_table stands after).sheet k) whole_year d
       (λ x l u. ap (λ rows. (rows_table stands rows).sheet k x) h.rows_are ∙ elsewhere stands before k d s h.asked k x (λ p q. omega arith))
 
   pub step_taken : (e : ℕ) → d ≤ last_day → stands k s ≡ true → RowTaken stands before after k d s (spread ((rows_table stands before).sheet k) whole_year d) e → Taken (carried (rows_table stands before) whole_year) (carried (rows_table stands after) whole_year) k d s e
@@ -192,16 +186,10 @@ module _ {T : Type 0} (stands : ℕ → T → Bool) (before after : List (Row T)
       in
       subst (Taken (carried (rows_table stands before) whole_year) (carried (rows_table stands after) whole_year) k d s) (t.reached ∙ sym h.day_is) t
 
-pub steps_security : (before after : List (Row SecuritySheet)) (others : List (Row CurrencySheet)) (k d : ℕ) (s : SecuritySheet) (r : Result Day Fault) → d ≤ last_day → RowEntered any_number before after k d s (spread ((rows_table any_number before).sheet k) whole_year d) r → SecurityEntered (steps_meaning before others) (steps_meaning after others) k d s r
-steps_security before after others k d s (Ok e) y h = (step_taken any_number before after k d s e.number y refl h, refl)
-steps_security before after others k d s (Err f) y h = record { asked = h.asked; says = h.says; same = ap (λ rows. steps_meaning rows others) h.rows_are }
+pub steps_security : (steps : Steps) (after : List (Row SecuritySheet)) (k d : ℕ) (s : SecuritySheet) (r : Result Day Fault) → d ≤ last_day → RowEntered any_number steps.securities after k d s (spread ((rows_table any_number steps.securities).sheet k) whole_year d) r → SecurityEntered (steps_meaning steps) (steps_meaning record { securities = after; currencies = steps.currencies }) k d s r
+steps_security steps after k d s (Ok e) y h = (step_taken any_number steps.securities after k d s e.number y refl h, refl)
+steps_security steps after k d s (Err f) y h = record { asked = h.asked; says = h.says; same = ap (λ rows. steps_meaning record { securities = rows; currencies = steps.currencies }) h.rows_are }
 
-pub steps_currency : (others : List (Row SecuritySheet)) (before after : List (Row CurrencySheet)) (d : ℕ) (s : CurrencySheet) (r : Result Day Fault) → d ≤ last_day → RowEntered own_number before after s.currency d s (spread ((rows_table own_number before).sheet s.currency) whole_year d) r → CurrencyEntered (steps_meaning others before) (steps_meaning others after) d s r
-steps_currency others before after d s (Ok e) y h = (step_taken own_number before after s.currency d s e.number y (eq-eqb s.currency s.currency refl) h, refl)
-steps_currency others before after d s (Err f) y h = record { asked = h.asked; says = h.says; same = ap (steps_meaning others) h.rows_are }
-
--- the answer to a taken entry is the greatest day before the next
-pub steps_greatest : {T : Type 0} (stands : ℕ → T → Bool) (before after : List (Row T)) (k d : ℕ) (s : T) (r : Result Day Fault) → d ≤ last_day → RowEntered stands before after k d s (spread ((rows_table stands before).sheet k) whole_year d) r → IfOk r (λ e. Greatest ((rows_table stands before).sheet k) whole_year d e.number)
-steps_greatest stands before after k d s (Ok e) y h =
-    let t = (rows_table stands before).sheet k in subst (Greatest t whole_year d) (sym h.day_is) (spread_greatest t whole_year d y)
-steps_greatest stands before after k d s (Err f) y h = tt
+pub steps_currency : (steps : Steps) (after : List (Row CurrencySheet)) (d : ℕ) (s : CurrencySheet) (r : Result Day Fault) → d ≤ last_day → RowEntered own_number steps.currencies after s.currency.number d s (spread ((rows_table own_number steps.currencies).sheet s.currency.number) whole_year d) r → CurrencyEntered (steps_meaning steps) (steps_meaning record { securities = steps.securities; currencies = after }) d s r
+steps_currency steps after d s (Ok e) y h = (step_taken own_number steps.currencies after s.currency.number d s e.number y (eq-eqb s.currency.number s.currency.number refl) h, refl)
+steps_currency steps after d s (Err f) y h = record { asked = h.asked; says = h.says; same = ap (λ rows. steps_meaning record { securities = steps.securities; currencies = rows }) h.rows_are }

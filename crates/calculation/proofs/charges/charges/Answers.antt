@@ -1,12 +1,12 @@
+use Rattle.std.proofs.Common.{◌≡◌, rules}
 use Rattle.reference.specs.Meaning.{answers}
+use Rattle.calculation.specs.Charging.{charges_of}
 use Rattle.calculation.proofs.Dependence.{depends}
-use Rattle.calculation.proofs.Worked.{worked}
 use Rattle.calculation.proofs.charges.charges.Goals as goal
 
-pub returns : goal.returns
-returns g c =
-    record {
-      value = c.checked_charges.ensures.value;
-      reads = depends c.args.calendar.now.business c.args.opted.now (answers (g.S.Source.meaning c.args.source.now)) c.args.report c.checked_charges.result c.checked_charges.ensures.value;
-      figures = worked;
-    }
+pub returns-clause-reads : goal.returns-clause-reads
+returns-clause-reads g c =
+    let m = answers (g.S.Source.meaning c.args.source.now) in
+    let marks = c.args.calendar.now.business in
+    let value : c.charges.result ≡ charges_of marks c.args.opted.now m c.args.report = search rules in
+    depends marks c.args.opted.now m c.args.report c.charges.result value

@@ -1,13 +1,12 @@
-use Rattle.std.proofs.Common.{sym, ◌∙◌}
-use Rattle.plain_rows.proofs.Entering.{place_taken, place_free}
+use Rattle.std.proofs.Common.{◌≡◌, rules, tests}
+use Rattle.std.specs.List.{position}
+use Rattle.std.proofs.lemmas.Iterator.{YieldsList-from_slice}
+use Rattle.std.proofs.lemmas.Iterator.Search.{position_from_yields_List}
+use Rattle.plain_rows.specs.Rows.{sits}
 use Rattle.plain_rows.proofs.rows.entry_place.Goals as goal
-
-pub returns-then-i-rows : goal.returns-then-i-rows
-returns-then-i-rows g c =
-    let here = c.place_of-i.ensures.value in
-    record { value = here ∙ sym (place_taken g.T.Filed.stands c.args.rows.now c.args.number c.args.day (rw here at c.if-i-rows.true)) }
 
 pub returns : goal.returns
 returns g c =
-    let here = c.place_of-i.ensures.value in
-    record { value = c.free_place.ensures.value ∙ sym (place_free g.T.Filed.stands c.args.rows.now c.args.number c.args.day (rw here at c.if-i-rows.false)) }
+    let p = sits g.T.Filed.stands c.args.number c.args.day in
+    let first : c.position.result ≡ position p c.args.rows.now = position_from_yields_List p _ _ c.position.result c.position.ensures.ran (YieldsList-from_slice c.args.rows.now cc) (λ x b q k. search (rules, tests)) in
+    record { value = rw (← first) (search (rules, tests)) }
