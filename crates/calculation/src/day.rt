@@ -1,4 +1,4 @@
-// What one used day reads and comes to.
+// What one used day reads and comes to. Source and day are two parameters, as in the reads that contracts name.
 ghost use Rattle.std.specs.Prelude.{◌≡◌, ◌*◌};
 ghost use Rattle.sheets.specs.Refusals.{Answers};
 ghost use Rattle.calculation.specs.Steps.{result_of, reads_security, reads_currency, gives, ComesTo};

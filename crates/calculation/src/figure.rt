@@ -15,6 +15,7 @@ use reports::report::{Exchange, Side, Trade};
 use sheets::fault::Fault;
 use sheets::units::{Currency, Party};
 
+// The marks are a fixed number, one for each depository.
 fn is_opted(opted: &[bool; 90], party: Party) -> bool
     ensures value { result ≡ is_opted opted.now party.number }
 {

@@ -60,6 +60,7 @@ impl<S: Source> Carry<S> {
     }
 }
 
+// A method for each kind of sheet, as the interface has.
 impl<S: Source> Source for Carry<S> {
     ghost use Rattle.carry.specs.Layer.{carry_meaning, EnteredBelow};
 

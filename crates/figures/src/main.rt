@@ -78,7 +78,7 @@ fn all_year() -> Result<Calendar, Fault> {
     Ok(calendar)
 }
 
-// From party 1001 to party 2002: security 17 in types 1 to 3, cash of 25000.00 euro in types 1, 3 and 4.
+// Raw numbers, as a report's. From party 1001 to party 2002: security 17 in types 1 to 3, cash of 25000.00 euro in types 1, 3 and 4.
 fn reported(kind: u8, quantity: u64, cause: Cause) -> Report {
     Report {
         instruction: 900_001,

@@ -56,6 +56,7 @@ fn ask_currency(words: &mut Words<'_>) -> Result<Call, Expected>
     Ok(Call::AskCurrency { currency, day })
 }
 
+// A match: each subject is asked for by words of its own.
 fn sheet(words: &mut Words<'_>) -> Result<Call, Expected>
     ensures cases { Reads calls.sheet words.old result words.new }
 {

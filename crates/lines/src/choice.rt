@@ -3,21 +3,21 @@ ghost use Rattle.std.specs.Prelude.{◌≡◌};
 ghost use Rattle.lines.specs.Fields.{kind_of, form_of, base_kind_of, side_of, subject_of, happened_of};
 
 // What a sheet is of.
-#[derive(Clone, Copy, Debug, PartialEq, Eq)]
+#[derive(Clone, Copy)]
 pub(crate) enum Subject {
     Security,
     Currency,
 }
 
 // What a quote is for.
-#[derive(Clone, Copy, Debug, PartialEq, Eq)]
+#[derive(Clone, Copy)]
 pub(crate) enum Happened {
     Fail,
     Late,
 }
 
 // The first words of the lines that are calls.
-#[derive(Clone, Copy, Debug, PartialEq, Eq)]
+#[derive(Clone, Copy)]
 pub(crate) enum Verb {
     Security,
     Currency,
@@ -26,7 +26,7 @@ pub(crate) enum Verb {
 }
 
 // The first words of lines.
-#[derive(Clone, Copy, Debug, PartialEq, Eq)]
+#[derive(Clone, Copy)]
 pub(crate) enum Kind {
     Business,
     Opted,
@@ -35,14 +35,14 @@ pub(crate) enum Kind {
 }
 
 // The bases of a source.
-#[derive(Clone, Copy, Debug, PartialEq, Eq)]
+#[derive(Clone, Copy)]
 pub(crate) enum BaseKind {
     Plain,
     Steps,
 }
 
 // What a source is made of: its base, or a layer over one.
-#[derive(Clone, Copy, Debug, PartialEq, Eq)]
+#[derive(Clone, Copy)]
 pub(crate) enum Form {
     Base(BaseKind),
     Carry,

@@ -1,4 +1,4 @@
-// The fields of a line: each takes one word, or says what it expected.
+// The fields of a line: each takes one word, or says what it expected; words and what is expected are two in the grammar, too.
 ghost use Rattle.std.specs.Prelude.{ℕ, List, Option};
 ghost use Rattle.lines.specs.Grammar.{Reads, Makes, field as one_word};
 ghost use Rattle.lines.specs.Fields as fields;

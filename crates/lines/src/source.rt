@@ -52,6 +52,7 @@ fn carry(words: &mut Words<'_>) -> Result<Source, Expected>
     })
 }
 
+// A match, as in `base`.
 pub(crate) fn source(words: &mut Words<'_>) -> Result<Source, Expected>
     ensures cases { Reads settings.source words.old result words.new }
 {

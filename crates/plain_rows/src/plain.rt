@@ -34,6 +34,7 @@ impl<'a> PlainRows<'a> {
     }
 }
 
+// A method for each kind of sheet, as the interface has.
 impl<'a> Source for PlainRows<'a> {
     ghost meaning = { plain_meaning };
 

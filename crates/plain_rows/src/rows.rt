@@ -1,4 +1,4 @@
-// Rows of one kind of sheet, written once for both kinds.
+// Rows of one kind of sheet, written once for both kinds. Number and day are two parameters, as in the tables that contracts name.
 ghost use Rattle.std.specs.Prelude.{◌≡◌, ℕ, Bool, position};
 ghost use Rattle.plain_rows.specs.Rows.{any_number, own_number, unused_row, filed, sits, free, entry_row, entry_place, rows_table, RowEntered};
 

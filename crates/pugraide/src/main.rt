@@ -31,7 +31,7 @@ use steps::entries::Steps;
 #[derive(Clone, Copy)]
 struct Stop;
 
-// What a report is judged by, besides the source.
+// What a report is judged by, besides the source. The marks of the opted are a fixed number.
 #[derive(Drop)]
 struct Marks {
     calendar: Calendar,

@@ -29,6 +29,7 @@ fn parties_of(report: Report) -> Option<(Party, Party)>
     Some((deliverer, receiver))
 }
 
+// A match, here and below: each type has fields of its own.
 fn securities_fit(kind: Kind, quantity: u64, security: u16) -> bool
     ensures value { result ≡ securities_fit (kind_number kind) quantity security }
 {

@@ -39,7 +39,7 @@ impl TryFrom<u8> for Reason {
 }
 
 impl Reason {
-    // An obstacle of the other side has to be that side's own reason.
+    // An obstacle of the other side has to be that side's own reason: one arm has a test, the other needs none.
     pub(crate) fn is_met(self, other: Reason) -> bool
         ensures value { result ≡ is_met (reason_number self) (reason_number other) }
     {

@@ -61,7 +61,7 @@ fn least_value(currency: u8) -> u64
     }
 }
 
-// The greatest euro value, likewise.
+// The greatest euro value, likewise; each of the two is a table of its own numbers.
 fn greatest_value(currency: u8) -> u64
     ensures value { result ≡ greatest_value currency }
 {

@@ -1,5 +1,5 @@
 // Numbers that cannot lie outside their limits: the keys of sheets, the parties, and daily rates. Each is a type of its own, so
-// that none is taken for another; by a const parameter those with equal limits would be one type.
+// that none is taken for another; with its limits as const parameters it would be told apart by these alone.
 ghost use Rattle.std.specs.Prelude.{◌≡◌, ◌≤◌};
 ghost use Rattle.sheets.specs.Limits.{last_day, last_security, last_currency, first_party, last_party, greatest_rate};
 

@@ -1,4 +1,5 @@
-// A source with entries of its own, each of which holds from its day on, until the next of its number.
+// A source with entries of its own, each of which holds from its day on, until the next of its number. Number
+// and day are two parameters, as in the tables that contracts name.
 ghost use Rattle.std.specs.Prelude.{◌≡◌, replicate, IfOk};
 ghost use Rattle.reference.specs.Meaning.{SecurityEntered, CurrencyEntered};
 ghost use Rattle.plain_rows.specs.Rows.{any_number, own_number, unused_row, rows_table, RowEntered, RowsAfter};
@@ -35,6 +36,7 @@ impl Steps {
     }
 }
 
+// A method for each kind of sheet, as the interface has.
 impl Source for Steps {
     ghost meaning = { steps_meaning };
 

@@ -76,7 +76,7 @@ pub fn is(word: &[u8], text: &[u8]) -> bool
     word == text
 }
 
-// EUR, DKK or a currency's number.
+// EUR, DKK or a currency's number, raw, since a call judges it.
 pub fn currency_of(word: &[u8]) -> Option<u8>
     ensures value { result ≡ currency_of word.now }
 {
