@@ -1,7 +1,7 @@
 // Works through figures that are known by hand, and prints each.
 #![tactic(auto)]
 
-use calculation::charge::Charges;
+use calculation::charge::{Charge, Charges};
 use calculation::charges::charges;
 use carry::layer::Carry;
 use plain_rows::plain::PlainRows;
@@ -13,7 +13,7 @@ use reports::calendar::Calendar;
 use reports::open::{closed_year, open_days};
 use reports::report::{Cause, Report};
 use sheets::fault::Fault;
-use shows::{Payment, Refusal};
+use shows::Refusal;
 use std::io;
 use steps::entries::Steps;
 
@@ -62,14 +62,28 @@ fn carried(rt: &HostRuntime) -> io::Result<()> {
     asked(rt, &source, 12)
 }
 
+// As in `pugraide`: one for both would be public, and nothing can be promised of what it prints.
+fn charged(rt: &HostRuntime, charge: Charge) -> io::Result<()> {
+    let failing = charge.failing;
+    let other = charge.other;
+    let currency = shows::Currency(u64::from(charge.currency));
+    let amount = shows::Money {
+        units: charge.amount,
+    };
+    print!(rt; " charge {failing} to {other} {currency} {amount}")
+}
+
 fn quoted(rt: &HostRuntime, answer: Result<Charges, Fault>) -> io::Result<()> {
     match answer {
-        Ok(Charges::One(charge)) => println!(rt; " {}", Payment(charge)),
+        Ok(Charges::One(charge)) => charged(rt, charge)?,
         Ok(Charges::Two(first, second)) => {
-            println!(rt; " {} and {}", Payment(first), Payment(second))
+            charged(rt, first)?;
+            print!(rt; " and")?;
+            charged(rt, second)?;
         }
-        Err(fault) => println!(rt; " {}", Refusal(fault)),
+        Err(fault) => print!(rt; " {}", Refusal(fault))?,
     }
+    println!(rt)
 }
 
 fn all_year() -> Result<Calendar, Fault> {

@@ -4,7 +4,7 @@
 mod help;
 
 use crate::help::HELP;
-use calculation::charge::Charges;
+use calculation::charge::{Charge, Charges};
 use calculation::charges::charges;
 use carry::layer::Carry;
 use journal::read::journal_of;
@@ -21,7 +21,7 @@ use reports::report::{Cause, Report};
 use sheets::fault::Fault;
 use sheets::sheet::{CurrencySheet, SecuritySheet};
 use sheets::units::Day;
-use shows::{Payment, Refusal};
+use shows::Refusal;
 use std::io::{BufWriter, Read, Write};
 use std::process::ExitCode;
 use std::{env, fmt, fs, io};
@@ -100,13 +100,26 @@ impl<W: Write> Reply<'_, W> {
         };
         let Reply { out, line } = self;
         match charges {
-            Charges::One(charge) => writeln!(out, "{line} {}", Payment(charge)),
+            Charges::One(charge) => charged(out, line, charge),
             Charges::Two(first, second) => {
-                writeln!(out, "{line} {}", Payment(first))?;
-                writeln!(out, "{line} {}", Payment(second))
+                charged(out, line, first)?;
+                charged(out, line, second)
             }
         }
     }
+}
+
+fn charged<W: Write>(out: &mut W, line: usize, charge: Charge) -> io::Result<()> {
+    let failing = charge.failing;
+    let other = charge.other;
+    let currency = shows::Currency(u64::from(charge.currency));
+    let amount = shows::Money {
+        units: charge.amount,
+    };
+    writeln!(
+        out,
+        "{line} charge {failing} to {other} {currency} {amount}"
+    )
 }
 
 fn cause_of(event: Event) -> Cause {

@@ -1,7 +1,6 @@
-// How days, prices, money, rates, euro values, currencies, charges and refusals are printed.
+// How days, prices, money, rates, euro values, currencies and refusals are printed.
 #![tactic(auto)]
 
-use calculation::charge::Charge;
 use sheets::fault::{Fault, Rule};
 use std::fmt;
 use std::fmt::InlineText;
@@ -31,10 +30,6 @@ pub type Value = Decimal<6>;
 // EUR, DKK or the currency's number.
 #[derive(Clone, Copy, Debug, PartialEq, Eq)]
 pub struct Currency(pub u64);
-
-// Who pays whom, in which currency and how much.
-#[derive(Clone, Copy, Debug, PartialEq, Eq)]
-pub struct Payment(pub Charge);
 
 // A refusal: its number, its layer and its place, and after a `#` what that means.
 #[derive(Clone, Copy, Debug, PartialEq, Eq)]
@@ -68,19 +63,6 @@ impl fmt::Display for Currency {
             1 => f.pad("DKK"),
             number => f.pad(InlineText::<32>::of(format_args!("{number}")).as_str()),
         }
-    }
-}
-
-impl fmt::Display for Payment {
-    fn fmt<W: fmt::Write>(&self, f: &mut fmt::Formatter<W>) -> fmt::Result {
-        let Payment(charge) = *self;
-        let failing = charge.failing;
-        let other = charge.other;
-        let currency = Currency(u64::from(charge.currency));
-        let amount = Money {
-            units: charge.amount,
-        };
-        write!(f, "charge {failing} to {other} {currency} {amount}")
     }
 }
 
