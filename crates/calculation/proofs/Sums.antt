@@ -1,5 +1,5 @@
 -- The sum over the used days, one day at a time.
-use Rattle.std.proofs.Common.{◌≡◌, ℕ, ◌+◌, ◌<◌, ◌≤◌, Bool, true, false, List, Ok, Err, Result, refl, ap, ◌∙◌, arith}
+use Rattle.std.proofs.Common.{◌≡◌, ℕ, ◌+◌, ◌<◌, ◌≤◌, Bool, true, false, List, Ok, Err, Result, refl, sym, ap, ◌∙◌, arith}
 use Rattle.sheets.specs.declared.fault.Fault.{Fault}
 use Rattle.reference.specs.Meaning.{Sheets}
 use Rattle.reports.specs.Days.{is_business, days_between}
@@ -37,8 +37,19 @@ module _ (m : Sheets) (one : ℕ → Steps ℕ) (marks : List Bool) where
       ∙ (ap (plus sum) (result_bind m (sum_of one (days_between marks (d + 1) end)) (λ b. gives (a + b)))
       ∙ plus-plus sum a (rest (d + 1) end)))
 
-  pub sum_stop : (sum d end : ℕ) (f : Fault) → d < end → is_business marks d ≡ true → result_of m (one d) ≡ Err f → plus sum (rest d end) ≡ Err f
-  sum_stop sum d end f h b e = taken sum d end h b ∙ ap (plus sum) (bind_err m (one d) (more d end) f e)
+  pub sum_used : (sum d end next : ℕ) → d < end → is_business marks d ≡ true → Ok next ≡ plus sum (result_of m (one d)) → plus sum (rest d end) ≡ plus next (rest (d + 1) end)
+  sum_used sum d end next h b e = go (result_of m (one d)) refl e
+    where
+      go : (r : Result ℕ Fault) → result_of m (one d) ≡ r → Ok next ≡ plus sum r → plus sum (rest d end) ≡ plus next (rest (d + 1) end)
+      go (Ok a) is s = let all : sum + a ≡ next = cc in sum_take sum d end a h b is ∙ ap (λ k. plus k (rest (d + 1) end)) all
+      go (Err f) is s = absurd (cc)
+
+  pub sum_stop : (sum d end : ℕ) (f : Fault) → d < end → is_business marks d ≡ true → Err f ≡ plus sum (result_of m (one d)) → plus sum (rest d end) ≡ Err f
+  sum_stop sum d end f h b e = go (result_of m (one d)) refl e
+    where
+      go : (r : Result ℕ Fault) → result_of m (one d) ≡ r → Err f ≡ plus sum r → plus sum (rest d end) ≡ Err f
+      go (Ok a) is s = absurd (cc)
+      go (Err g) is s = taken sum d end h b ∙ ap (plus sum) (bind_err m (one d) (more d end) g is) ∙ sym s
 
   pub sum_all : (sum d end : ℕ) → end ≤ d → plus sum (rest d end) ≡ Ok sum
   sum_all sum d end h =

@@ -1,10 +1,11 @@
 // A penalty's currency and amount.
-ghost use Rattle.std.specs.Prelude.{◌≡◌};
+ghost use Rattle.std.specs.Prelude.{◌≡◌, ◌+◌, ◌*◌, ◌^◌, ◌≤◌, IfOk};
+ghost use Rattle.sheets.specs.Limits.{last_day};
 ghost use Rattle.reports.specs.Days.{days_of};
 ghost use Rattle.calculation.specs.Steps.{result_of, ComesTo};
 ghost use Rattle.reference.specs.Meaning.{answers};
 ghost use Rattle.reports.specs.Terms.{terms_of};
-ghost use Rattle.calculation.specs.Penalties.{is_opted, free_currency, currency_of, day_of, sum_of, penalty};
+ghost use Rattle.calculation.specs.Penalties.{is_opted, free_currency, currency_of, day_of, plus, sum_of, penalty};
 
 use crate::basis::Basis;
 use crate::charge::Figure;
@@ -48,16 +49,27 @@ impl<S: Source> Basis<'_, S> {
         }
     }
 
-    #[tactic(auto, using(crate::proofs::Sums::sum_take, crate::proofs::Sums::sum_skip, crate::proofs::Sums::sum_stop))]
+    // The sum with what the day comes to.
+    fn with_day(&self, penalty: Penalty, sum: u64, day: u16) -> Result<u64, Fault>
+        requires { sum ≤ 2 * 10 ^ 16 * last_day }
+        ensures value { result ≡ plus sum (result_of (answers (S.meaning self.now.source.now)) (day_of (terms_of penalty.trade) penalty.side penalty.currency.number day)) }
+        ensures bound { IfOk result (λ a. a ≤ sum + 2 * 10 ^ 16) }
+    {
+        let amount = penalty.day_of(self.source, day)?;
+        Ok(sum + amount.number)
+    }
+
+    #[tactic(auto, using(crate::proofs::Sums::sum_used, crate::proofs::Sums::sum_skip, crate::proofs::Sums::sum_stop))]
     fn amount_of(&self, penalty: Penalty) -> Result<u64, Fault>
         ensures value { result ≡ result_of (answers (S.meaning self.now.source.now)) (sum_of (day_of (terms_of penalty.trade) penalty.side penalty.currency.number) (days_of self.now.calendar.now.business penalty.trade.span)) }
     {
         let span = penalty.trade.span;
+        let business = &self.calendar.business;
         let mut sum = 0;
         // A `for` with `?` is the plain form of a sum whose steps may fail.
         for day in span.from..span.end {
-            if self.calendar.is_business(day) {
-                sum += penalty.day_of(self.source, day)?.number;
+            if business[usize::from(day)] {
+                sum = self.with_day(penalty, sum, day)?;
             }
         }
         Ok(sum)

@@ -98,7 +98,8 @@ fn entry_place<T: Filed>(rows: &[Row<T>], number: u16, day: u16) -> Option<usize
         .or_else(|| free_place(rows))
 }
 
-// The sheet of that number and day.
+// The sheet of that number and day. Inlined, its search takes half as long again in some places.
+#[inline(never)]
 pub fn row_sheet<T: Filed>(rows: &[Row<T>], number: u16, day: u16) -> Option<T>
     ensures value { result ≡ (rows_table T.stands rows.now).sheet number day }
 {

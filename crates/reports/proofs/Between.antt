@@ -1,8 +1,8 @@
 -- The business days from a day on, one day at a time.
-use Rattle.std.proofs.Common.{◌≡◌, ℕ, zero, suc, ◌+◌, ◌-◌, ◌<◌, ◌≤◌, Bool, true, false, cond, not, List, [], ◌∷◌, Some, None, unwrap_or, refl, ap, ◌∙◌, ⊎_elim, arith}
+use Rattle.std.proofs.Common.{◌≡◌, ℕ, zero, suc, ◌+◌, ◌-◌, ◌<◌, ◌≤◌, Bool, true, false, cond, not, List, [], ◌∷◌, refl, ap, ◌∙◌, ⊎_elim, arith}
 use Rattle.std.proofs.lemmas.Bool.{cond-true, cond-false, cases_Bool}
-use Rattle.std.specs.List.{range_with_len, list_any, last_or as last_item}
-use Rattle.reports.specs.Days.{is_business, business_days, days_between, last_or, is_empty}
+use Rattle.std.specs.List.{range_with_len, list_any}
+use Rattle.reports.specs.Days.{is_business, business_days, days_between, is_empty}
 
 module _ (marks : List Bool) (d end : ℕ) where
   pub between_none : end ≤ d → days_between marks d end ≡ []
@@ -23,12 +23,3 @@ module _ (marks : List Bool) where
   pub any_day : (n d : ℕ) → list_any (is_business marks) (range_with_len d n) ≡ not (is_empty (business_days marks d n))
   any_day zero d = refl
   any_day (suc n) d = ⊎_elim (λ b. rw b refl) (λ b. rw b (any_day n (d + 1))) (cases_Bool (is_business marks d))
-
--- std's last item of a list
-last_after : (ds : List ℕ) (d e : ℕ) → unwrap_or (last_item (Some e) ds) d ≡ last_or e ds
-last_after [] d e = refl
-last_after (f ∷ fs) d e = last_after fs d f
-
-pub last_found : (ds : List ℕ) (d : ℕ) → unwrap_or (last_item None ds) d ≡ last_or d ds
-last_found [] d = refl
-last_found (e ∷ es) d = last_after es d e

@@ -1,3 +1,4 @@
 pub mod Between
 pub mod Using
 pub mod Failing
+pub mod Backwards

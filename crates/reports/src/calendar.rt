@@ -1,5 +1,5 @@
 // The business days of a year, one mark for each day number: the book keeps a fixed number of marks. Nothing compares calendars.
-ghost use Rattle.std.specs.Prelude.{◌≡◌, not, length};
+ghost use Rattle.std.specs.Prelude.{◌≡◌, ◌<◌, not, length};
 ghost use Rattle.reports.specs.Days.{is_business, days_between, days_of, last_or, is_empty};
 
 use crate::report::Span;
@@ -29,9 +29,9 @@ impl Calendar {
     pub fn last_day(&self, span: Span) -> u16
         ensures value { result ≡ last_or 0 (days_of self.now.business span) }
     {
-        (span.from..span.end)
-            .filter(|d| self.is_business(*d))
-            .last()
-            .unwrap_or(0)
+        let is_open = |d: &u16|
+            requires { d.now < 372 }
+        { self.business[usize::from(*d)] };
+        (span.from..span.end).rev().find(is_open).unwrap_or(0)
     }
 }

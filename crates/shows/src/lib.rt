@@ -9,7 +9,7 @@ use std::fmt::InlineText;
 #[derive(Clone, Copy, Debug, PartialEq, Eq)]
 pub struct Day(pub u64);
 
-// A number in units of its last decimal, of which it has PLACES.
+// A number in units of its last decimal, of which it has PLACES, from 1 to 30: more do not fit in what is printed.
 #[derive(Clone, Copy, Debug, PartialEq, Eq)]
 pub struct Decimal<const PLACES: u32> {
     pub units: u64,

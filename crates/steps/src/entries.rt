@@ -92,7 +92,7 @@ fn step_sheet<T: Filed>(rows: &[Row<T>], number: u16, day: Day) -> Option<T>
 {
     rows.iter()
         .filter(|row| row.is_filed(number) && row.day <= day.number)
-        .map(|row| row.day)
+        .map(|entry| entry.day)
         .max()
         .and_then(|latest| row_sheet(rows, number, latest))
 }

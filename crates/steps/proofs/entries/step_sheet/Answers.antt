@@ -1,4 +1,4 @@
-use Rattle.std.proofs.Common.{◌≡◌, ◌&&◌, leb, max, rules, tests, sym, ap, ◌∙◌, subst}
+use Rattle.std.proofs.Common.{◌≡◌, ◌&&◌, leb, max, rules, tests, arith, sym, ap, ◌∙◌, subst}
 use Rattle.std.specs.List.{reduce}
 use Rattle.std.specs.Option.{option_and_then}
 use Rattle.std.proofs.lemmas.Iterator.{YieldsList-from_slice, YieldsList-from_map}
@@ -23,7 +23,7 @@ returns g c =
     (YieldsList-from_map _ (λ r. r.day)
     (YieldsList-at c.map.ensures.source
     (YieldsList-from_filter _ (λ r. filed stands k r && leb r.day d) (YieldsList-from_slice c.args.rows.now cc) c.filter.ensures.closure (λ x b q k. search (rules, tests))))
-    c.map.ensures.closure (λ x r q k. search rules))
+    c.map.ensures.closure (λ x r q k. search (rules, arith)))
     in
     let answer : c.and_then.result ≡ option_and_then sheet c.max.result = search (rules, tests) in
     let value = answer ∙ ap (option_and_then sheet) latest ∙ latest_entry stands c.args.rows.now k d c.args.day.limit in
