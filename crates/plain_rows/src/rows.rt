@@ -1,4 +1,5 @@
 // Rows of one kind of sheet, written once for both kinds. Number and day are two parameters, as in the tables that contracts name.
+// The two searches of rows are not inlined: where they were, some took half as long again.
 ghost use Rattle.std.specs.Prelude.{◌≡◌, ℕ, Bool, position};
 ghost use Rattle.plain_rows.specs.Rows.{any_number, own_number, unused_row, filed, sits, free, entry_row, entry_place, rows_table, RowEntered};
 
@@ -90,6 +91,7 @@ fn free_place<T: Filed>(rows: &[Row<T>]) -> Option<usize>
 }
 
 // Where an entry of that number and day goes: its row, or the first unused one.
+#[inline(never)]
 fn entry_place<T: Filed>(rows: &[Row<T>], number: u16, day: u16) -> Option<usize>
     ensures value { result ≡ entry_place T.stands number day rows.now }
 {
@@ -98,7 +100,7 @@ fn entry_place<T: Filed>(rows: &[Row<T>], number: u16, day: u16) -> Option<usize
         .or_else(|| free_place(rows))
 }
 
-// The sheet of that number and day. Inlined, its search takes half as long again in some places.
+// The sheet of that number and day.
 #[inline(never)]
 pub fn row_sheet<T: Filed>(rows: &[Row<T>], number: u16, day: u16) -> Option<T>
     ensures value { result ≡ (rows_table T.stands rows.now).sheet number day }

@@ -1,5 +1,6 @@
 // A source with entries of its own, each of which holds from its day on, until the next of its number. Number
 // and day are two parameters, as in the tables that contracts name.
+// What searches the entries is not inlined, as in the rows that it stands on.
 ghost use Rattle.std.specs.Prelude.{◌≡◌, replicate, IfOk};
 ghost use Rattle.reference.specs.Meaning.{SecurityEntered, CurrencyEntered};
 ghost use Rattle.plain_rows.specs.Rows.{any_number, own_number, unused_row, rows_table, RowEntered, RowsAfter};
@@ -86,6 +87,7 @@ impl Source for Steps {
 }
 
 // The sheet of the latest entry up to `day`.
+#[inline(never)]
 fn step_sheet<T: Filed>(rows: &[Row<T>], number: u16, day: Day) -> Option<T>
     ensures value { result ≡ (carried (rows_table T.stands rows.now) whole_year).sheet number day.number }
     ensures latest { IsLatest ((rows_table T.stands rows.now).sheet number) whole_year day.number result }
@@ -112,6 +114,7 @@ fn next_step<T: Filed>(rows: &[Row<T>], number: u16, day: Day) -> Day
 }
 
 // The entry reaches to the day before the number's next.
+#[inline(never)]
 fn enter_step<T: Filed>(rows: &mut [Row<T>], number: u16, day: Day, sheet: T) -> Result<Day, Fault>
     ensures entered { RowEntered T.stands rows.old rows.new number day.number sheet ((carried (rows_table T.stands rows.old) whole_year).reach number day.number sheet) result }
     ensures greatest { IfOk result (λ e. Greatest ((rows_table T.stands rows.old).sheet number) whole_year day.number e.number) }
